@@ -1,0 +1,39 @@
+-- Permutations: both sides have the same members, and a map carries them along.
+use mathlib.Core.Path.{_≡_, refl, sym, ap, _∙_}
+use mathlib.Core.Logic.{_⊎_, inl, inr}
+use mathlib.Core.List.{List, [], _∷_, _++_, map, List·Memᴰ, List·Memᴰ·head, List·Memᴰ·tail, List·Memᴰ·cases-cons, List·Permᴰ, List·Permᴰ·nil, List·Permᴰ·cons, List·Permᴰ·swap, List·Permᴰ·trans, Permᴰ·refl, Permᴰ·symm, Permᴰ·append-left, Permᴰ·append-right, Permᴰ·middle}
+
+module _ {A : Type 0} where
+  pub perm-in : {xs ys : List A} → List·Permᴰ xs ys → {a : A} → List·Memᴰ a xs → List·Memᴰ a ys
+  perm-in List·Permᴰ·nil m = m
+  perm-in (List·Permᴰ·cons {a = x} {b = y} {l₁ = xs} {l₂ = ys} e p) {a} m = by (List·Memᴰ·cases-cons m) (perm-in p)
+    where
+      by : (a ≡ x) ⊎ List·Memᴰ a xs → (List·Memᴰ a xs → List·Memᴰ a ys) → List·Memᴰ a (y ∷ ys)
+      by (inl d) k = List·Memᴰ·head (d ∙ e)
+      by (inr n) k = List·Memᴰ·tail (k n)
+  perm-in (List·Permᴰ·swap {a = x} {b = y} {a′ = y′} {b′ = x′} {l = xs} e f) {a} m = by (List·Memᴰ·cases-cons m)
+    where
+      rest : (a ≡ y) ⊎ List·Memᴰ a xs → List·Memᴰ a (y′ ∷ x′ ∷ xs)
+      rest (inl d) = List·Memᴰ·head (d ∙ f)
+      rest (inr n) = List·Memᴰ·tail (List·Memᴰ·tail n)
+
+      by : (a ≡ x) ⊎ List·Memᴰ a (y ∷ xs) → List·Memᴰ a (y′ ∷ x′ ∷ xs)
+      by (inl d) = List·Memᴰ·tail (List·Memᴰ·head (d ∙ e))
+      by (inr n) = rest (List·Memᴰ·cases-cons n)
+  perm-in (List·Permᴰ·trans p q) m = perm-in q (perm-in p m)
+
+  -- the two parts of a list change places
+  pub perm-turn : (xs ys : List A) → List·Permᴰ (xs ++ ys) (ys ++ xs)
+  perm-turn [] ys = Permᴰ·nil-right ys
+    where
+      Permᴰ·nil-right : (zs : List A) → List·Permᴰ zs (zs ++ [])
+      Permᴰ·nil-right [] = List·Permᴰ·nil
+      Permᴰ·nil-right (z ∷ zs) = List·Permᴰ·cons refl (Permᴰ·nil-right zs)
+  perm-turn (x ∷ xs) ys = List·Permᴰ·trans (List·Permᴰ·cons refl (perm-turn xs ys)) (Permᴰ·symm (Permᴰ·middle x ys xs))
+
+module _ {A B : Type 0} where
+  pub perm-map : (f : A → B) {xs ys : List A} → List·Permᴰ xs ys → List·Permᴰ (map f xs) (map f ys)
+  perm-map f List·Permᴰ·nil = List·Permᴰ·nil
+  perm-map f (List·Permᴰ·cons e p) = List·Permᴰ·cons (ap f e) (perm-map f p)
+  perm-map f (List·Permᴰ·swap e d) = List·Permᴰ·swap (ap f e) (ap f d)
+  perm-map f (List·Permᴰ·trans p q) = List·Permᴰ·trans (perm-map f p) (perm-map f q)

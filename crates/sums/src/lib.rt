@@ -1,0 +1,1 @@
+// Finite sums and lists: definitions and laws only, no code. See specs/ and proofs/.
