@@ -1,1 +1,6 @@
-
+pub mod Answers
+pub mod Asked
+pub mod Plan
+pub mod Start
+pub mod Advance
+pub mod Sheet

@@ -1,1 +1,5 @@
-
+pub mod Ends
+pub mod Model
+pub mod Records
+pub mod File
+pub mod Network
