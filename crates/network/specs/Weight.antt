@@ -2,6 +2,7 @@
 -- product of the n_k!, times the product of load^n_k. All n_k zero gives 1."
 use Prim.Native.Nat.{ℕ, zero, suc, _+_, _*_, _^_}
 use mathlib.Core.List.{List, [], _∷_}
+use Rattle.sums.specs.Sums.{sumOver}
 
 -- "1 at k = 0, 0 where k is above n, otherwise the sum of the entries above and above-left"
 unfoldable pub binomial : ℕ → ℕ → ℕ
@@ -24,7 +25,14 @@ powers (load ∷ loads) (n ∷ ns) = load ^ n * powers loads ns
 unfoldable pub weight : List ℕ → List ℕ → ℕ
 weight loads ns = multinomial 0 ns * powers loads ns
 
--- n!, for the law that the multinomial is n! divided by the product of the n_k!
+-- for the law that the multinomial is n! divided by the product of the n_k!: n! itself, n, and that product
 unfoldable pub factorial : ℕ → ℕ
 factorial zero = 1
 factorial (suc n) = suc n * factorial n
+
+abbrev pub total : List ℕ → ℕ
+total ns = sumOver ns (λ n. n)
+
+unfoldable pub factorials : List ℕ → ℕ
+factorials [] = 1
+factorials (n ∷ ns) = factorial n * factorials ns

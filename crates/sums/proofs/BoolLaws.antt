@@ -3,8 +3,10 @@ use Prim.Native.Nat.{ℕ, zero, suc, _+_, _≤_, _<_}
 use mathlib.Core.Path.{_≡_, refl, sym, ap, subst, _∙_}
 use mathlib.Core.Bool.{Bool, true, false, _&&_, _||_, true≢false}
 use mathlib.Core.Logic.{_⊎_, inl, inr}
-use mathlib.Core.List.{List, [], _∷_, _++_, List·Memᴰ, List·Memᴰ·head, List·Memᴰ·tail, List·Memᴰ·cases-cons, List·Memᴰ·not-nil, Memᴰ·append-right, Memᴰ·cast}
+use mathlib.Core.List.{List, [], _∷_, _++_, List·Memᴰ, List·Memᴰ·head, List·Memᴰ·tail, List·Memᴰ·cases-cons, List·Memᴰ·not-nil, Memᴰ·append-right, Memᴰ·cast, append-assoc}
+use native.Mathlib.Omega.{arith}
 use lib.Dec.{eqb}
+use lib.ListN.{length}
 use borrow.Author.Tests.{eqb-true, eq-eqb}
 use Rattle.sums.specs.Lists.{some, all, among, when, those}
 
@@ -91,3 +93,36 @@ pub not-some : {A : Type 0} (test : A → Bool) (xs : List A) → ((a : A) → L
 unfolding some
 not-some test [] f = refl
 not-some test (x ∷ xs) f = rw (f x (List·Memᴰ·head refl)) (not-some test xs (λ a m. f a (List·Memᴰ·tail m)))
+
+pub some-append : {A : Type 0} (test : A → Bool) (xs ys : List A) → some test (xs ++ ys) ≡ (some test xs || some test ys)
+unfolding some
+some-append test [] ys = refl
+some-append test (x ∷ xs) ys = by (test x) (some-append test xs ys)
+  where
+    by : (b : Bool) → some test (xs ++ ys) ≡ (some test xs || some test ys) → (b || some test (xs ++ ys)) ≡ ((b || some test xs) || some test ys)
+    by true e = refl
+    by false e = e
+
+pub those-append : {A : Type 0} (test : A → Bool) (xs ys : List A) → those test (xs ++ ys) ≡ those test xs ++ those test ys
+unfolding those
+those-append test [] ys = refl
+those-append test (x ∷ xs) ys = ap (λ zs. when (test x) (x ∷ []) ++ zs) (those-append test xs ys) ∙ sym (append-assoc (when (test x) (x ∷ [])) (those test xs) (those test ys))
+
+-- how many pass: none exactly if not some
+pub those-none : {A : Type 0} (test : A → Bool) (xs : List A) → some test xs ≡ false → length (those test xs) ≡ 0
+unfolding some those when
+those-none test [] e = refl
+those-none test (x ∷ xs) e = by (test x) e (those-none test xs)
+  where
+    by : (b : Bool) → (b || some test xs) ≡ false → (some test xs ≡ false → length (those test xs) ≡ 0) → length (when b (x ∷ []) ++ those test xs) ≡ 0
+    by true d k = absurd (true≢false d)
+    by false d k = k d
+
+pub those-some : {A : Type 0} (test : A → Bool) (xs : List A) → some test xs ≡ true → 1 ≤ length (those test xs)
+unfolding some those when
+those-some test [] e = absurd (true≢false (sym e))
+those-some test (x ∷ xs) e = by (test x) e (those-some test xs)
+  where
+    by : (b : Bool) → (b || some test xs) ≡ true → (some test xs ≡ true → 1 ≤ length (those test xs)) → 1 ≤ length (when b (x ∷ []) ++ those test xs)
+    by true d k = omega arith
+    by false d k = k d

@@ -138,3 +138,8 @@ unfolding from
 from-in a zero i h = absurd (omega arith)
 from-in a (suc m) zero h = let e : a + 0 ≡ a = omega arith in List·Memᴰ·head e
 from-in a (suc m) (suc i) h = let e : suc a + i ≡ a + suc i = omega arith in List·Memᴰ·tail (subst (λ c. List·Memᴰ c (from (suc a) m)) e (from-in (suc a) m i (omega arith)))
+
+pub from-nodup : (a m : ℕ) → List·Nodup (from a m)
+unfolding from
+from-nodup a zero = nodup-nil
+from-nodup a (suc m) = nodup-more (λ h. omega (arith, from-out (suc a) m a h .0)) (from-nodup (suc a) m)

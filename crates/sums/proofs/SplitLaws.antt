@@ -1,5 +1,5 @@
 -- The lists of splits hold exactly the splits, and none twice.
-use Prim.Native.Nat.{ℕ, zero, suc, _+_}
+use Prim.Native.Nat.{ℕ, zero, suc, _+_, _<_}
 use mathlib.Core.Path.{_≡_, refl, sym, ap, subst, _∙_}
 use mathlib.Core.Logic.{_⊎_, inl, inr}
 use mathlib.Core.List.{List, [], _∷_, map, flatMap, tail, headD, List·Memᴰ, List·Memᴰ·head, List·Memᴰ·tail, List·Memᴰ·cases-cons, Memᴰ·map, Memᴰ·of-map, List·Memᴰ·not-nil, List·Memᴰ·eq-of-singleton, List·Nodup, nodup-nil}
@@ -26,6 +26,15 @@ split-at (Split.more p s) (suc i) = split-at s i
 pub split-same : {j k l v : List ℕ} → Split j k v → Split j l v → k ≡ l
 split-same Split.none Split.none = refl
 split-same (Split.more {a = a} {b = b} {n = n} {j = j} {k = k} p s) (Split.more {b = b′} {k = l} q t) = let e : b ≡ b′ = omega arith in λ i. e i ∷ split-same s t i
+
+-- a split entry by entry
+pub split-of : (j k v : List ℕ) → length j ≡ length v → length k ≡ length v → ((i : ℕ) → i < length v → getD j i 0 + getD k i 0 ≡ getD v i 0) → Split j k v
+split-of [] [] [] a b f = Split.none
+split-of [] (y ∷ k) [] a b f = absurd (omega arith)
+split-of (x ∷ j) k [] a b f = absurd (omega arith)
+split-of [] k (n ∷ v) a b f = absurd (omega arith)
+split-of (x ∷ j) [] (n ∷ v) a b f = absurd (omega arith)
+split-of (x ∷ j) (y ∷ k) (n ∷ v) a b f = Split.more (f 0 (omega arith)) (split-of j k v (omega arith) (omega arith) (λ i h. f (suc i) (omega arith)))
 
 -- ---- the lists
 

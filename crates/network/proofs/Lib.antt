@@ -1,0 +1,5 @@
+pub mod Readings
+pub mod WeightLaws
+pub mod ValueLaws
+pub mod StateLaws
+pub mod CoverageLaws
