@@ -6,3 +6,6 @@ pub mod CoverageLaws
 pub mod CellLaws
 pub mod CoverLaws
 pub mod PairLaws
+pub mod RunLaws
+pub mod NodeLaws
+pub mod BoundLaws
