@@ -2,3 +2,6 @@ pub mod StepLaws
 pub mod WalkLaws
 pub mod PlacedLaws
 pub mod SoundLaws
+pub mod TreeLaws
+pub mod Guaranteed
+pub mod AcceptedLaws
