@@ -5,3 +5,4 @@ pub mod SoundLaws
 pub mod TreeLaws
 pub mod Guaranteed
 pub mod AcceptedLaws
+pub mod LongLaws

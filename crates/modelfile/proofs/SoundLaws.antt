@@ -36,7 +36,7 @@ module _ (m : Model) (s : Sound m) where
   slot-room c k wc wk = omega (arith, s .centres-few, s .chains-few)
 
   -- one centre more is in the tree
-  leaf-more : (c : ℕ) → Within 1 (m .centres) c → getD (m .placed) (c - 1) 0 ≡ 0 → length (inTree 1 (set (m .placed) (c - 1) 1)) ≡ suc (length (inTree 1 (m .placed)))
+  pub leaf-more : (c : ℕ) → Within 1 (m .centres) c → getD (m .placed) (c - 1) 0 ≡ 0 → length (inTree 1 (set (m .placed) (c - 1) 1)) ≡ suc (length (inTree 1 (m .placed)))
   leaf-more c w e = inTree-more 1 (m .placed) (c - 1) (omega (arith, s .placed-long, s .centres-few)) e
 
   pub leaf-room : (c : ℕ) → Within 1 (m .centres) c → getD (m .placed) (c - 1) 0 ≡ 0 → m .count + m .trees ≤ 30
