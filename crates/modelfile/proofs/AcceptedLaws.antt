@@ -1,7 +1,7 @@
 -- An accepted file guarantees a whole model: an invariant of three parts (the order of the sections, the windows and loads, the growing
 -- tree) is kept by the five steps, and what the end record has shown turns it into Guaranteed.
-use Prim.Native.Nat.{ℕ, zero, suc, _+_, _-_, _*_, _<_, _≤_}
-use mathlib.Core.Path.{_≡_, refl, sym, ap, subst, _∙_}
+use Prim.Native.Nat.{ℕ, zero, suc, _+_, _*_, _<_, _≤_}
+use mathlib.Core.Path.{_≡_, refl, ap, subst, _∙_}
 use mathlib.Core.Bool.{Bool, true, false, not}
 use mathlib.Core.List.{List, [], _∷_, List·Permᴰ, List·Permᴰ·nil}
 use native.Mathlib.Omega.{arith}
@@ -19,7 +19,7 @@ use Rattle.modelfile.specs.File.{readFile}
 use Rattle.modelfile.specs.Network.{subtrees, latest, treeOf}
 use Rattle.modelfile.specs.declared.Model.{Model}
 use Rattle.modelfile.specs.declared.Verdict.{Verdict}
-use Rattle.modelfile.proofs.StepLaws.{Within, Taken, Ended}
+use Rattle.modelfile.proofs.StepLaws.{Taken, Ended}
 use Rattle.modelfile.proofs.WalkLaws.{Keeps, reached}
 use Rattle.modelfile.proofs.PlacedLaws.{inTree, inTree-all}
 use Rattle.modelfile.proofs.SoundLaws.{Sound, sound-empty, sound-kept, leaf-room, join-room}

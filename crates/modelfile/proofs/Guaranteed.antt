@@ -1,7 +1,7 @@
 -- What an accepted file guarantees of its model. The law is `accepted` in AcceptedLaws.
 use Prim.Native.Nat.{ℕ, _+_, _*_, _<_, _≤_}
 use mathlib.Core.Path.{_≡_}
-use mathlib.Core.List.{List, [], _∷_, List·Permᴰ}
+use mathlib.Core.List.{[], _∷_, List·Permᴰ}
 use lib.ListN.{length, getD, take}
 use Rattle.sums.specs.Lists.{from}
 use Rattle.network.specs.Coverage.{under}

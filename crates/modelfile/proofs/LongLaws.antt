@@ -1,23 +1,22 @@
 -- "The longest file has 715 bytes": loads ascend, so there are at most as many as slots; each centre is one leaf at most. So no record
 -- begins past place 714, each due record ends within 716 bytes, and those settle the reading of any longer file.
-use Prim.Native.Nat.{ℕ, zero, suc, _+_, _-_, _*_, _<_, _≤_}
-use mathlib.Core.Path.{_≡_, refl, sym, ap, subst, _∙_}
-use mathlib.Core.Bool.{Bool, true, false, not, _&&_, _||_}
+use Prim.Native.Nat.{ℕ, zero, suc, _+_, _*_, _<_, _≤_}
+use mathlib.Core.Path.{_≡_, refl, ap, subst}
+use mathlib.Core.Bool.{Bool, true, false, not}
 use mathlib.Core.List.{List, [], _∷_}
 use native.Mathlib.Omega.{arith}
 use lib.Dec.{ltb, leb, eqb}
-use lib.ListN.{length, getD, set, take}
+use lib.ListN.{length, getD, take}
 use lib.Seq.{take-all, getD-take, length-take-le}
-use borrow.Author.Tests.{ltb-true, ltb-false, lt-ltb, lt-leb, not-false}
+use borrow.Author.Tests.{ltb-true, ltb-false, lt-ltb, lt-leb}
 use Rattle.sums.specs.Lists.{some}
-use Rattle.modelfile.specs.Ends.{outside}
-use Rattle.modelfile.specs.Model.{emptyModel, withSize, withWindow, slot, withLoad, withLeaf, withJoin}
-use Rattle.modelfile.specs.Records.{pick, refuse, loadIn, readSize, readWindow, readLoad, readLeaf, readJoin, readEnd, bodyLength, due, readBody, readRecord}
+use Rattle.modelfile.specs.Model.{emptyModel, withSize, withWindow, withLoad, withLeaf, withJoin}
+use Rattle.modelfile.specs.Records.{pick, refuse, readSize, readWindow, readLoad, readLeaf, readJoin, readEnd, bodyLength, due, readBody, readRecord}
 use Rattle.modelfile.specs.File.{onward, readFrom, readFile}
 use Rattle.modelfile.specs.declared.Model.{Model}
 use Rattle.modelfile.specs.declared.Stepped.{Stepped}
 use Rattle.modelfile.specs.declared.Verdict.{Verdict}
-use Rattle.modelfile.proofs.StepLaws.{Within, Due, due-is, Taken, Outcome, record-outcome}
+use Rattle.modelfile.proofs.StepLaws.{Due, due-is, Taken, Outcome, record-outcome}
 use Rattle.modelfile.proofs.WalkLaws.{Keeps, reached}
 use Rattle.modelfile.proofs.PlacedLaws.{inTree, inTree-few}
 use Rattle.modelfile.proofs.SoundLaws.{leaf-more, slot-room}

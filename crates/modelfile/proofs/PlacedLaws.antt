@@ -1,6 +1,6 @@
 -- The centres in the tree, listed by their flags: setting a flag adds that centre (inTree-set), and where exactly the first n flags are
 -- set, they are the first n centres (inTree-all).
-use Prim.Native.Nat.{ℕ, zero, suc, _+_, _-_, _<_, _≤_}
+use Prim.Native.Nat.{ℕ, zero, suc, _+_, _<_, _≤_}
 use mathlib.Core.Path.{_≡_, refl, sym, ap, _∙_}
 use mathlib.Core.List.{List, [], _∷_, List·Permᴰ, List·Permᴰ·nil, List·Permᴰ·cons, List·Permᴰ·swap, List·Permᴰ·trans, Permᴰ·refl}
 use native.Mathlib.Omega.{arith}

@@ -1,7 +1,7 @@
 -- What the arrays and counts of a model being read always satisfy, so that every index of its code is in range: each node count
 -- comes from a leaf of a centre of its own or a join, so there are at most 16 leaves and 31 nodes.
-use Prim.Native.Nat.{ℕ, zero, suc, _+_, _-_, _*_, _<_, _≤_}
-use mathlib.Core.Path.{_≡_, refl, sym, ap, _∙_}
+use Prim.Native.Nat.{ℕ, suc, _+_, _-_, _*_, _<_, _≤_}
+use mathlib.Core.Path.{_≡_, refl, _∙_}
 use mathlib.Core.List.{List}
 use native.Mathlib.Omega.{arith}
 use lib.ListN.{length, getD, set, length-set}

@@ -1,6 +1,6 @@
 -- What one record does: it is due (Due), and then it is one of five steps from place to place (Taken), the end, or a refusal 1 to 9
 -- (Outcome), each with what its tests have shown. One law, record-outcome, follows the tests once; all other laws go by these cases.
-use Prim.Native.Nat.{ℕ, zero, suc, _+_, _-_, _*_, _<_, _≤_}
+use Prim.Native.Nat.{ℕ, zero, suc, _+_, _-_, _<_, _≤_}
 use mathlib.Core.Path.{_≡_, refl, sym, ap, subst, _∙_}
 use mathlib.Core.Bool.{Bool, true, false, not, _&&_, _||_, true≢false}
 use mathlib.Core.List.{List, [], _∷_}

@@ -1,13 +1,13 @@
 -- The subtrees that the nodes leave, one node at a time: a leaf adds its centre, a join keeps all centres and takes one subtree away.
 use Prim.Native.Nat.{ℕ, zero, suc, _+_, _-_, _<_, _≤_}
 use mathlib.Core.Path.{_≡_, refl, sym, ap, subst, _∙_}
-use mathlib.Core.List.{List, [], _∷_, _++_, append-assoc, List·Permᴰ, List·Permᴰ·nil, List·Permᴰ·cons, List·Permᴰ·trans}
+use mathlib.Core.List.{List, [], _∷_, _++_, append-assoc, List·Permᴰ, List·Permᴰ·cons, List·Permᴰ·trans}
 use native.Mathlib.Omega.{arith}
 use native.Mathlib.Numerals.{add-one}
-use lib.ListN.{length, getD, set, take, replicate}
+use lib.ListN.{length, getD, set, take}
 use lib.Seq.{take-suc-set, getD-set-other}
 use Rattle.sums.proofs.PermLaws.{perm-turn}
-use Rattle.network.specs.Coverage.{Tree, leaf, join, under}
+use Rattle.network.specs.Coverage.{Tree, leaf, under}
 use Rattle.modelfile.specs.Network.{joined, subtrees, latest}
 use Rattle.modelfile.proofs.PlacedLaws.{inTree, inTree-set}
 

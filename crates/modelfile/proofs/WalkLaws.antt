@@ -1,8 +1,8 @@
 -- From one record to the whole file: what every step keeps holds where an accepted file ends (reached), a refusal's number and
 -- place lie in their ranges (refused-range), and the tree part lies in the file (first-inside). By induction over the bytes, and at
 -- each record by cases on its outcome.
-use Prim.Native.Nat.{ℕ, zero, suc, _+_, _-_, _<_, _≤_}
-use mathlib.Core.Path.{_≡_, refl, sym, ap, subst, _∙_}
+use Prim.Native.Nat.{ℕ, zero, suc, _+_, _≤_}
+use mathlib.Core.Path.{_≡_, sym, subst}
 use mathlib.Core.Bool.{Bool, true, false}
 use mathlib.Core.List.{List, [], _∷_}
 use native.Mathlib.Omega.{arith}
