@@ -6,3 +6,4 @@ pub mod TreeLaws
 pub mod Guaranteed
 pub mod AcceptedLaws
 pub mod LongLaws
+pub mod LongestFile
