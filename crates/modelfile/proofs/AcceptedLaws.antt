@@ -21,7 +21,7 @@ use Rattle.modelfile.specs.declared.Model.{Model}
 use Rattle.modelfile.specs.declared.Verdict.{Verdict}
 use Rattle.modelfile.proofs.StepLaws.{Taken, Ended}
 use Rattle.modelfile.proofs.WalkLaws.{Keeps, reached}
-use Rattle.modelfile.proofs.PlacedLaws.{inTree, inTree-all}
+use Rattle.modelfile.proofs.InTreeLaws.{inTree, inTree-all}
 use Rattle.modelfile.proofs.SoundLaws.{Sound, sound-empty, sound-kept, leaf-room, join-room}
 use Rattle.modelfile.proofs.TreeLaws.{allUnder, one-latest, Growing, growing-leaf, growing-join}
 use Rattle.modelfile.proofs.Guaranteed.{Guaranteed}

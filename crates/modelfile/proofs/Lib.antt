@@ -1,6 +1,8 @@
 pub mod StepLaws
 pub mod WalkLaws
-pub mod PlacedLaws
+pub mod PartLaws
+pub mod PlaceLaws
+pub mod InTreeLaws
 pub mod SoundLaws
 pub mod TreeLaws
 pub mod Guaranteed

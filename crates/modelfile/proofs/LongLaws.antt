@@ -18,7 +18,7 @@ use Rattle.modelfile.specs.declared.Stepped.{Stepped}
 use Rattle.modelfile.specs.declared.Verdict.{Verdict}
 use Rattle.modelfile.proofs.StepLaws.{Due, due-is, Taken, Outcome, record-outcome}
 use Rattle.modelfile.proofs.WalkLaws.{Keeps, reached}
-use Rattle.modelfile.proofs.PlacedLaws.{inTree, inTree-few}
+use Rattle.modelfile.proofs.InTreeLaws.{inTree, inTree-few}
 use Rattle.modelfile.proofs.SoundLaws.{leaf-more, slot-room}
 use Rattle.modelfile.proofs.AcceptedLaws.{Kept, kept-empty, kept-step}
 

@@ -11,7 +11,7 @@ use Rattle.modelfile.specs.declared.Model.{Model}
 use Rattle.modelfile.specs.declared.Stepped.{Stepped}
 use Rattle.modelfile.proofs.StepLaws.{Within, Taken, Outcome, record-outcome}
 use Rattle.modelfile.proofs.WalkLaws.{Keeps}
-use Rattle.modelfile.proofs.PlacedLaws.{inTree, inTree-few, inTree-more}
+use Rattle.modelfile.proofs.InTreeLaws.{inTree, inTree-few, inTree-more}
 
 pub record Sound (m : Model) : Type 0 where
   pub centres-few : m .centres ≤ 16

@@ -42,7 +42,7 @@ pub data Due (m : Model) : ℕ → Type 0 where
   join : 1 ≤ m .centres → m .chains ≤ m .given → 1 ≤ m .count → Due m 5
   end : 1 ≤ m .centres → m .chains ≤ m .given → 1 ≤ m .count → Due m 6
 
-positive : (n : ℕ) → eqb n 0 ≡ false → 1 ≤ n
+pub positive : (n : ℕ) → eqb n 0 ≡ false → 1 ≤ n
 positive zero e = absurd (eqb-false 0 0 e refl)
 positive (suc n) e = omega arith
 

@@ -9,7 +9,7 @@ use lib.Seq.{take-suc-set, getD-set-other}
 use Rattle.sums.proofs.PermLaws.{perm-turn}
 use Rattle.network.specs.Coverage.{Tree, leaf, under}
 use Rattle.modelfile.specs.Network.{joined, subtrees, latest}
-use Rattle.modelfile.proofs.PlacedLaws.{inTree, inTree-set}
+use Rattle.modelfile.proofs.InTreeLaws.{inTree, inTree-set}
 
 -- the centres under the subtrees, the latest subtree first in the stack
 unfoldable pub allUnder : List Tree → List ℕ

@@ -1,14 +1,11 @@
--- From one record to the whole file: what every step keeps holds where an accepted file ends (reached), a refusal's number and
--- place lie in their ranges (refused-range), and the tree part lies in the file (first-inside). By induction over the bytes, and at
--- each record by cases on its outcome.
+-- From one record to the whole file: what every step keeps holds where an accepted file ends (reached), and a refusal's number and
+-- place lie in their ranges (refused-range). By induction over the bytes, and at each record by cases on its outcome.
 use Prim.Native.Nat.{ℕ, zero, suc, _+_, _≤_}
 use mathlib.Core.Path.{_≡_, sym, subst}
-use mathlib.Core.Bool.{Bool, true, false}
 use mathlib.Core.List.{List, [], _∷_}
 use native.Mathlib.Omega.{arith}
-use lib.Dec.{eqb}
 use lib.ListN.{length}
-use Rattle.modelfile.specs.Model.{emptyModel, withSize, withWindow, withLoad, firstPlace, withLeaf, withJoin}
+use Rattle.modelfile.specs.Model.{emptyModel}
 use Rattle.modelfile.specs.Records.{bodyLength, readRecord}
 use Rattle.modelfile.specs.File.{onward, readFrom, readFile}
 use Rattle.modelfile.specs.declared.Model.{Model}
@@ -81,21 +78,3 @@ unfolding readFile
 refused-range file number place e =
     let r = from-refused (length file) number place file 0 0 emptyModel (omega arith) e in
     (r .numbered .low, r .numbered .high, r .placed)
-
--- ---- the tree part lies in the file
-
-first-kept : Keeps (λ at m. m .first ≤ at)
-unfolding withSize withWindow withLoad withLeaf withJoin
-first-kept at m to n i (Taken.size c k a b d) = omega arith
-first-kept at m to n i (Taken.window w a b) = omega arith
-first-kept at m to n i (Taken.load c k l a b d e f) = omega arith
-first-kept at m to n i (Taken.leaf c a b d e) = by (eqb (m .count) 0)
-  where
-    by : (t : Bool) → firstPlace t at (m .first) ≤ at + 2
-    by true = omega arith
-    by false = omega arith
-first-kept at m to n i (Taken.join a b) = omega arith
-
-pub first-inside : (file : List ℕ) → readFile file .verdict ≡ Verdict.Accepted → readFile file .model .first + 1 ≤ length file
-unfolding emptyModel
-first-inside file e = let r = reached (λ at m. m .first ≤ at) first-kept (omega arith) file e in omega (arith, r .kept, r .last)
