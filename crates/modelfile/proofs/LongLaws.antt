@@ -24,6 +24,7 @@ use Rattle.modelfile.proofs.AcceptedLaws.{Kept, kept-empty, kept-step}
 
 -- ---- how far the records before a place can reach
 
+-- 3 bytes for the size, 3 a window, at most 5 a slot passed, 2 a leaf, 1 a join
 record Near (at : ℕ) (m : Model) : Type 0 where
   kept : Kept m
   start : m .centres ≡ 0 → at ≡ 0

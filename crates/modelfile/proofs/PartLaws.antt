@@ -15,6 +15,7 @@ use Rattle.modelfile.specs.declared.Verdict.{Verdict}
 use Rattle.modelfile.proofs.StepLaws.{positive, Taken}
 use Rattle.modelfile.proofs.WalkLaws.{Keeps, reached}
 
+-- the first leaf lies before this place
 record Begun (at : ℕ) (m : Model) : Type 0 where
   begun : 1 ≤ m .count → m .first + 2 ≤ at
 

@@ -1,5 +1,5 @@
--- What the arrays and counts of a model being read always satisfy, so that every index of its code is in range: each node count
--- comes from a leaf of a centre of its own or a join, so there are at most 16 leaves and 31 nodes.
+-- What the arrays and counts of a model being read always satisfy, so that each index a record writes to is in range: every leaf has a
+-- centre of its own and every join takes one subtree away, so there are at most 16 leaves and 31 nodes.
 use Prim.Native.Nat.{ℕ, suc, _+_, _-_, _*_, _<_, _≤_}
 use mathlib.Core.Path.{_≡_, refl, _∙_}
 use mathlib.Core.List.{List}

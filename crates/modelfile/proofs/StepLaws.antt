@@ -9,7 +9,7 @@ use lib.Dec.{ltb, leb, eqb}
 use lib.ListN.{length, getD}
 use borrow.Author.Tests.{ltb-true, ltb-false, leb-false, eqb-true, eqb-false, not-false, eq-eqb}
 use Rattle.sums.specs.Lists.{some}
-use Rattle.modelfile.specs.Ends.{outside}
+use Rattle.modelfile.specs.Ends.{lastCentre, lastChain, largestWindow, largestLoad, outside}
 use Rattle.modelfile.specs.Model.{withSize, withWindow, slot, withLoad, withLeaf, withJoin}
 use Rattle.modelfile.specs.Records.{more, refuse, pick, chainWithoutCentre, centreMissing, readSize, readWindow, loadIn, readLoad, readLeaf, readJoin, readEnd, bodyLength, pickKinds, due, readBody, readRecord}
 use Rattle.modelfile.specs.declared.Model.{Model}
@@ -81,9 +81,9 @@ module _ (m : Model) (kind : ℕ) where
 
 -- from the place and model of a record to those of the next
 pub data Taken (at : ℕ) (m : Model) : ℕ → Model → Type 0 where
-  size : (c k : ℕ) → m .centres ≡ 0 → Within 1 16 c → Within 1 8 k → Taken at m (at + 3) (withSize m c k)
-  window : (n : ℕ) → m .given < m .chains → n ≤ 15 → Taken at m (at + 3) (withWindow m n)
-  load : (c k l : ℕ) → m .count ≡ 0 → Within 1 (m .centres) c → Within 1 (m .chains) k → Within 1 65535 l → m .passed ≤ slot c k → Taken at m (at + 5) (withLoad m c k l)
+  size : (c k : ℕ) → m .centres ≡ 0 → Within 1 lastCentre c → Within 1 lastChain k → Taken at m (at + 3) (withSize m c k)
+  window : (n : ℕ) → m .given < m .chains → n ≤ largestWindow → Taken at m (at + 3) (withWindow m n)
+  load : (c k l : ℕ) → m .count ≡ 0 → Within 1 (m .centres) c → Within 1 (m .chains) k → Within 1 largestLoad l → m .passed ≤ slot c k → Taken at m (at + 5) (withLoad m c k l)
   leaf : (c : ℕ) → m .chains ≤ m .given → Within 1 (m .centres) c → (m .count ≡ 0 → chainWithoutCentre m ≡ false) → getD (m .placed) (c - 1) 0 ≡ 0 → Taken at m (at + 2) (withLeaf m at c)
   join : 1 ≤ m .count → 2 ≤ m .trees → Taken at m (at + 1) (withJoin m)
 
@@ -118,19 +118,19 @@ module _ (rest : List ℕ) (at : ℕ) (m : Model) where
     unfolding readBody readSize readWindow readLoad readLeaf readJoin readEnd bodyLength
     body-outcome kind e (Due.size z) =
         let b : bodyLength (getD rest 0 0) ≡ 2 = ap bodyLength e in
-        stop-or (outside 1 16 (getD rest 1 0)) 3 (at + 1) (omega arith) λ f.
-        stop-or (outside 1 8 (getD rest 2 0)) 3 (at + 2) (omega arith) λ g.
+        stop-or (outside 1 lastCentre (getD rest 1 0)) 3 (at + 1) (omega arith) λ f.
+        stop-or (outside 1 lastChain (getD rest 2 0)) 3 (at + 2) (omega arith) λ g.
         goes-to (Taken.size _ _ z (outside-false _ _ _ f) (outside-false _ _ _ g)) (omega arith)
     body-outcome kind e (Due.window s w) =
         let b : bodyLength (getD rest 0 0) ≡ 2 = ap bodyLength e in
         stop-or (not (eqb (getD rest 1 0) (m .given + 1))) 3 (at + 1) (omega arith) λ f.
-        stop-or (outside 0 15 (getD rest 2 0)) 3 (at + 2) (omega arith) λ g.
-        goes-to (Taken.window _ w (outside-false 0 15 _ g .high)) (omega arith)
+        stop-or (outside 0 largestWindow (getD rest 2 0)) 3 (at + 2) (omega arith) λ g.
+        goes-to (Taken.window _ w (outside-false 0 largestWindow _ g .high)) (omega arith)
     body-outcome kind e (Due.load s w z) =
         let b : bodyLength (getD rest 0 0) ≡ 4 = ap bodyLength e in
         stop-or (outside 1 (m .centres) (getD rest 1 0)) 3 (at + 1) (omega arith) λ f.
         stop-or (outside 1 (m .chains) (getD rest 2 0)) 3 (at + 2) (omega arith) λ g.
-        stop-or (outside 1 65535 (loadIn rest)) 3 (at + 3) (omega arith) λ h.
+        stop-or (outside 1 largestLoad (loadIn rest)) 3 (at + 3) (omega arith) λ h.
         stop-or (ltb (slot (getD rest 1 0) (getD rest 2 0)) (m .passed)) 4 at (omega arith) λ o.
         goes-to (Taken.load _ _ _ z (outside-false _ _ _ f) (outside-false _ _ _ g) (outside-false _ _ _ h) (ltb-false _ _ o)) (omega arith)
     body-outcome kind e (Due.leaf s w) =
