@@ -1,0 +1,11 @@
+pub mod StepLaws
+pub mod WalkLaws
+pub mod PartLaws
+pub mod PlaceLaws
+pub mod InTreeLaws
+pub mod SoundLaws
+pub mod TreeLaws
+pub mod Guaranteed
+pub mod AcceptedLaws
+pub mod LongLaws
+pub mod LongestFile
