@@ -9,3 +9,5 @@ pub mod PairLaws
 pub mod RunLaws
 pub mod NodeLaws
 pub mod BoundLaws
+pub mod AreaLaws
+pub mod TreeLaws

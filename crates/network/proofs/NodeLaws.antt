@@ -65,6 +65,16 @@ pub coverages-length : (routes : List Route) (w : ℕ) (t : Tree) → length (co
 unfolding coverages
 coverages-length routes w t = length-map (from 1 w) (coverage routes (under t)) ∙ length-from 1 w
 
+pub spans-length : (routes : List Route) (windows : List ℕ) (t : Tree) → length (spansAt routes windows t) ≡ length windows
+unfolding spansAt zipWith
+spans-length routes windows t = zipped (coverages routes (length windows) t) windows (coverages-length routes (length windows) t)
+  where
+    zipped : (cs : List Coverage) (ns : List ℕ) → length cs ≡ length ns → length (zipWith span cs ns) ≡ length ns
+    zipped [] [] e = refl
+    zipped [] (n ∷ ns) e = absurd (omega arith)
+    zipped (c ∷ cs) [] e = absurd (omega arith)
+    zipped (c ∷ cs) (n ∷ ns) e = ap suc (zipped cs ns (omega arith))
+
 -- ---- the centres under a node
 
 -- every centre has a mark for each of w chains, and its weight is 0 off its route
