@@ -11,3 +11,4 @@ pub mod NodeLaws
 pub mod BoundLaws
 pub mod AreaLaws
 pub mod TreeLaws
+pub mod WholeLaws
