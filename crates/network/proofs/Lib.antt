@@ -12,3 +12,4 @@ pub mod BoundLaws
 pub mod AreaLaws
 pub mod TreeLaws
 pub mod WholeLaws
+pub mod CountLaws

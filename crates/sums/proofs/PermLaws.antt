@@ -1,5 +1,5 @@
 -- Permutations: both sides have the same members, and a map carries them along.
-use Prim.Native.Nat.{ℕ, _+_}
+use Prim.Native.Nat.{ℕ, suc, _+_}
 use mathlib.Core.Bool.{Bool}
 use mathlib.Core.Path.{_≡_, refl, sym, ap, _∙_}
 use mathlib.Core.Logic.{_⊎_, inl, inr}
@@ -27,6 +27,12 @@ module _ {A : Type 0} where
       by (inl d) = List·Memᴰ·tail (List·Memᴰ·head (d ∙ e))
       by (inr n) = rest (List·Memᴰ·cases-cons n)
   perm-in (List·Permᴰ·trans p q) m = perm-in q (perm-in p m)
+
+  pub perm-length : {xs ys : List A} → List·Permᴰ xs ys → length xs ≡ length ys
+  perm-length List·Permᴰ·nil = refl
+  perm-length (List·Permᴰ·cons e p) = ap suc (perm-length p)
+  perm-length (List·Permᴰ·swap e f) = refl
+  perm-length (List·Permᴰ·trans p q) = perm-length p ∙ perm-length q
 
   pub perm-nodup : {xs ys : List A} → List·Permᴰ xs ys → List·Nodup xs → List·Nodup ys
   perm-nodup List·Permᴰ·nil d = d

@@ -4,6 +4,7 @@ use mathlib.Core.Path.{_≡_, refl, sym, ap, _∙_}
 use mathlib.Core.List.{List, [], _∷_, _++_, map, flatMap, List·Memᴰ, List·Memᴰ·head, List·Memᴰ·tail}
 use native.Mathlib.Omega.{arith}
 use native.Mathlib.Nat.{mul-add, mul-zero}
+use lib.ListN.{length, length-append}
 use Rattle.sums.specs.Sums.{sumOver}
 
 module _ {A : Type 0} where
@@ -37,3 +38,8 @@ module _ {A B : Type 0} where
   unfolding sumOver flatMap
   sumOver-flat g [] f = refl
   sumOver-flat g (x ∷ xs) f = sumOver-append (g x) (flatMap g xs) f ∙ ap (λ n. sumOver (g x) f + n) (sumOver-flat g xs f)
+
+  pub length-flat-sum : (g : A → List B) (xs : List A) → length (flatMap g xs) ≡ sumOver xs (λ x. length (g x))
+  unfolding sumOver flatMap
+  length-flat-sum g [] = refl
+  length-flat-sum g (x ∷ xs) = length-append (g x) (flatMap g xs) ∙ ap (λ n. length (g x) + n) (length-flat-sum g xs)
