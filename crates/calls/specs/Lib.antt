@@ -3,4 +3,5 @@ pub mod Asked
 pub mod Plan
 pub mod Start
 pub mod Advance
+pub mod Slots
 pub mod Sheet

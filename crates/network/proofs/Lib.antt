@@ -13,3 +13,4 @@ pub mod AreaLaws
 pub mod TreeLaws
 pub mod WholeLaws
 pub mod CountLaws
+pub mod SpendLaws
