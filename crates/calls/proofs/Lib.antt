@@ -1,3 +1,4 @@
 pub mod Starred
 pub mod FileLaws
 pub mod SlotLaws
+pub mod ExactLaws

@@ -11,7 +11,7 @@ use lib.ListN.{length, getD, replicate, length-map, length-replicate, getD-repli
 use lib.Seq.{ext-getD}
 use Rattle.sums.specs.Lists.{from, byNumber, some}
 use Rattle.sums.specs.Sums.{sumOver}
-use Rattle.sums.proofs.ListLaws.{map-append, map-cong, getD-map-in, length-from, getD-from, from-out}
+use Rattle.sums.proofs.ListLaws.{map-append, map-cong, getD-in, getD-map-in, length-from, getD-from, from-out}
 use Rattle.sums.proofs.PermLaws.{perm-in, perm-map}
 use Rattle.sums.proofs.SplitLaws.{Split}
 use Rattle.network.specs.Centre.{Route, Centre, routesOf, fits, Off, On}
@@ -44,12 +44,7 @@ by-number xs d w e =
 by-number-in : {A : Type 0} (xs : List A) (d : A) (c : ℕ) → 1 ≤ c → c ≤ length xs → List·Memᴰ (byNumber xs c d) xs
 unfolding byNumber
 by-number-in xs d zero h k = absurd (omega arith)
-by-number-in {A = A} xs d (suc c) h k = at xs c (omega arith)
-  where
-    at : (ys : List A) (i : ℕ) → i < length ys → List·Memᴰ (getD ys i d) ys
-    at [] i l = absurd (omega arith)
-    at (y ∷ ys) zero l = List·Memᴰ·head refl
-    at (y ∷ ys) (suc i) l = List·Memᴰ·tail (at ys i (omega arith))
+by-number-in xs d (suc c) h k = getD-in d xs c (omega arith)
 
 merge-map : (f g : ℕ → Bool) (ks : List ℕ) → merge (map f ks) (map g ks) ≡ map (λ k. f k || g k) ks
 unfolding merge

@@ -1,25 +1,18 @@
--- Runs: what pairs leave in an area, and the sums that they form on the way (the trace). A run under a limit does the pairs whose sums
--- lead below the limit (spend-is); pairs that share a result cell add up there; blocks of pairs with different result cells, all above
--- the cells they read, do not disturb one another.
+-- Runs: what pairs leave in an area, and the sums that they form on the way (the trace). Pairs that share a
+-- result cell add up there; blocks of pairs with different result cells, all above the cells they read, do not disturb one another.
 use Prim.Native.Nat.{ℕ, zero, suc, _+_, _*_, _≤_, _<_}
 use mathlib.Core.Path.{_≡_, refl, sym, ap, subst, _∙_}
-use mathlib.Core.Bool.{Bool, true, false, _||_, true≢false}
-use mathlib.Core.List.{List, [], _∷_, _++_, map, flatMap, List·Memᴰ, List·Memᴰ·head, List·Memᴰ·tail, List·Memᴰ·cases-cons, List·Memᴰ·not-nil, Memᴰ·cast, List·Nodup}
+use mathlib.Core.List.{List, [], _∷_, _++_, map, flatMap, List·Memᴰ, List·Memᴰ·head, List·Memᴰ·tail, List·Memᴰ·cases-cons, List·Memᴰ·not-nil, Memᴰ·cast, Memᴰ·append-left, List·Nodup}
 use mathlib.Core.Logic.{_⊎_, inl, inr}
 use native.Mathlib.Omega.{arith}
-use native.Mathlib.Nat.{add-zero, le-refl, le-trans}
-use native.Mathlib.Decide.{ℕ-discrete}
-use lib.Dec.{ltb, leb}
-use lib.ListN.{length, getD, set, take, drop, length-set}
+use native.Mathlib.Nat.{add-zero}
+use lib.ListN.{length, getD, set, take, drop, length-set, take-append-drop}
 use lib.Seq.{getD-set-same, getD-set-other, set-set, set-getD}
-use borrow.Author.Tests.{ltb-true, ltb-false, le-leb, lt-leb}
-use Rattle.sums.specs.Choice.{choose}
-use Rattle.sums.specs.Lists.{some}
 use Rattle.sums.specs.Sums.{sumOver}
 use Rattle.sums.proofs.SumLaws.{sumOver-cong}
 use Rattle.sums.proofs.ListLaws.{map-cong, flat-cong, nodup-head, nodup-tail}
 use Rattle.network.specs.Pairs.{Pair}
-use Rattle.network.specs.Run.{sumAt, add, Progress, spend}
+use Rattle.network.specs.Run.{sumAt, add}
 
 -- all pairs, with no limit, and the sums they form
 unfoldable pub run : List Pair → List ℕ → List ℕ
@@ -54,43 +47,16 @@ unfolding run
 length-run [] A = refl
 length-run (p ∷ ps) A = length-run ps (add A p) ∙ length-add A p
 
--- ---- a limit
+-- each pair's sum is in the trace
+pub trace-at : (ps : List Pair) (A : List ℕ) (n : ℕ) (d : Pair) → n < length ps → List·Memᴰ (sumAt (run (take n ps) A) (getD ps n d)) (trace ps A)
+unfolding run trace
+trace-at [] A n d h = absurd (omega arith)
+trace-at (p ∷ ps) A zero d h = List·Memᴰ·head refl
+trace-at (p ∷ ps) A (suc n) d h = List·Memᴰ·tail (trace-at ps (add A p) n d (omega arith))
 
--- how many lead below m
-unfoldable pub lead : ℕ → List ℕ → ℕ
-lead m [] = 0
-lead m (x ∷ xs) = choose (ltb x m) (λ u. suc (lead m xs)) (λ u. 0)
-
--- the run under a limit, read off the trace
-unfoldable pub progress : ℕ → List Pair → ℕ → List ℕ → Progress
-progress m ps done A = record { done = done + lead m (trace ps A); area = run (take (lead m (trace ps A)) ps) A; stopped = some (leb m) (trace ps A) }
-
-pub spend-is : (m : ℕ) (ps : List Pair) (done : ℕ) (A : List ℕ) → spend m ps done A ≡ progress m ps done A
-unfolding spend progress lead trace run some
-spend-is m [] done A = let d : done ≡ done + 0 = omega arith in λ i. record { done = d i; area = A; stopped = false }
-spend-is m (p ∷ ps) done A = by (ltb (sumAt A p) m) refl (spend-is m ps (suc done) (add A p))
-  where
-    by : (t : Bool) → ltb (sumAt A p) m ≡ t → spend m ps (suc done) (add A p) ≡ progress m ps (suc done) (add A p)
-        → choose t (λ u. spend m ps (suc done) (add A p)) (λ u. record { done = done; area = A; stopped = true })
-        ≡ record { done = done + choose t (λ u. suc (lead m (trace ps (add A p)))) (λ u. 0); area = run (take (choose t (λ u. suc (lead m (trace ps (add A p)))) (λ u. 0)) (p ∷ ps)) A; stopped = leb m (sumAt A p) || some (leb m) (trace ps (add A p)) }
-    by true e k =
-        let d : suc done + lead m (trace ps (add A p)) ≡ done + suc (lead m (trace ps (add A p))) = omega arith in
-        let s : false ≡ leb m (sumAt A p) = sym (lt-leb m (sumAt A p) (ltb-true _ _ e)) in
-        k ∙ (λ i. record { done = d i; area = run (take (lead m (trace ps (add A p))) ps) (add A p); stopped = s i || some (leb m) (trace ps (add A p)) })
-    by false e k =
-        let s : true ≡ leb m (sumAt A p) = sym (le-leb m (sumAt A p) (ltb-false _ _ e)) in
-        let d : done ≡ done + 0 = omega arith in
-        λ i. record { done = d i; area = A; stopped = s i || some (leb m) (trace ps (add A p)) }
-
--- nothing stops exactly if every sum is below the limit; then all is done
-pub lead-all : (m : ℕ) (xs : List ℕ) → some (leb m) xs ≡ false → lead m xs ≡ length xs
-unfolding lead some
-lead-all m [] e = refl
-lead-all m (x ∷ xs) e = by (ltb x m) refl e (lead-all m xs)
-  where
-    by : (t : Bool) → ltb x m ≡ t → (leb m x || some (leb m) xs) ≡ false → (some (leb m) xs ≡ false → lead m xs ≡ length xs) → choose t (λ u. suc (lead m xs)) (λ u. 0) ≡ suc (length xs)
-    by true t d k = ap suc (k (subst (λ b. (b || some (leb m) xs) ≡ false) (lt-leb m x (ltb-true _ _ t)) d))
-    by false t d k = absurd (true≢false (sym (ap (λ b. b || some (leb m) xs) (le-leb m x (ltb-false _ _ t))) ∙ d))
+-- what the first pairs form is formed by all
+pub trace-take : (n : ℕ) (ps : List Pair) (A : List ℕ) (x : ℕ) → List·Memᴰ x (trace (take n ps) A) → List·Memᴰ x (trace ps A)
+trace-take n ps A x m = subst (λ l. List·Memᴰ x (trace l A)) (take-append-drop n ps) (subst (λ l. List·Memᴰ x l) (sym (trace-append (take n ps) (drop n ps) A)) (Memᴰ·append-left (trace (drop n ps) (run (take n ps) A)) m))
 
 -- ---- pairs with one result cell
 

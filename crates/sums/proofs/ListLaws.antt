@@ -62,6 +62,12 @@ module _ {A B : Type 0} where
       let q : suc d * m + p ≡ length (g x) + (d * m + p) = omega (arith, e x) in
       rw q (getD-append-add (g x) (flatMap g xs) (d * m + p) b ∙ getD-flat g m e xs a b d p (omega arith) k)
 
+-- what stands in a list is a member
+pub getD-in : {A : Type 0} (d : A) (xs : List A) (i : ℕ) → i < length xs → List·Memᴰ (getD xs i d) xs
+getD-in d [] i h = absurd (omega arith)
+getD-in d (x ∷ xs) zero h = List·Memᴰ·head refl
+getD-in d (x ∷ xs) (suc i) h = List·Memᴰ·tail (getD-in d xs i (omega arith))
+
 -- ---- no element twice
 
 module _ {A : Type 0} where
