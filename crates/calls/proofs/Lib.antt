@@ -2,3 +2,4 @@ pub mod Starred
 pub mod FileLaws
 pub mod SlotLaws
 pub mod ExactLaws
+pub mod Demand2
