@@ -25,10 +25,11 @@ use Rattle.calls.specs.Asked.{Asked, refused, granted, pickAsked, lessOn
 use Rattle.calls.specs.Start.{noRoom, tooLarge, start}
 use Rattle.calls.specs.Advance.{noAdvance, valueAt, told}
 use Rattle.calls.specs.Slots.{run}
+use Rattle.calls.specs.declared.StartAnswer.{StartAnswer}
 use Rattle.calls.specs.declared.AdvanceAnswer.{AdvanceAnswer}
 use Rattle.calls.proofs.FileLaws.{Fit, granted-fit, granted-from, length-windows}
 use Rattle.calls.proofs.SlotLaws.{sum}
-use Rattle.calls.proofs.ExactLaws.{startedArea, room-cells, run-is, leaf-high, stop-high, cells-le, done-all, last-value, value-low}
+use Rattle.calls.proofs.ExactLaws.{startedArea, room-cells, started-low, run-is, leaf-high, stop-high, cells-le, done-all, last-value, value-low}
 
 -- the refusal number of an answer, 0 for none
 abbrev pub refusal : AdvanceAnswer → ℕ
@@ -119,9 +120,9 @@ module _ (file : List ℕ) (lower : ℕ) (m : Model) (windows : List ℕ) (asked
         only-then = only-large }
 
   -- no cell that a run writes ever exceeds the value: whatever the budgets, where the start was accepted
-  pub never-above : some tooLarge (filledBy m windows) ≡ false → (i : ℕ) → i < cellsIn m windows → getD (run file lower b bs area .area) i 0 ≤ exact m windows
+  pub never-above : start file lower area .answer ≡ StartAnswer.Started → (i : ℕ) → i < cellsIn m windows → getD (run file lower b bs area .area) i 0 ≤ exact m windows
   unfolding spent ended
-  never-above a i h = subst (λ r. getD (r .area) i 0 ≤ exact m windows) (sym ends) (by (some tooLarge (filledBy m windows)) (spent .stopped) a)
+  never-above a i h = subst (λ r. getD (r .area) i 0 ≤ exact m windows) (sym ends) (by (some tooLarge (filledBy m windows)) (spent .stopped) (started-low file lower m windows asked area room a))
     where
       by : (leaf stopped : Bool) → leaf ≡ false → getD (ended leaf stopped .area) i 0 ≤ exact m windows
       by true stopped p = absurd (true≢false p)

@@ -62,11 +62,19 @@ room-cells m windows area e = by (ltb 8192 (cellsIn m windows)) (ltb (length are
 -- ---- what a run answers and leaves
 
 module _ (file : List ℕ) (lower : ℕ) (m : Model) (windows : List ℕ) (asked : ask file lower ≡ granted m windows) (area : List ℕ) (room : noRoom (cellsIn m windows) area ≡ false) where
-  start-is : start file lower area ≡ choose (some tooLarge (filledBy m windows)) (λ u. noStart 14 0 area) (λ u. record { answer = StartAnswer.Started; area = startedArea m windows area })
+  pub start-is : start file lower area ≡ choose (some tooLarge (filledBy m windows)) (λ u. noStart 14 0 area) (λ u. record { answer = StartAnswer.Started; area = startedArea m windows area })
   unfolding start startIn
   start-is =
       ap (λ a. onGranted a (λ number place. noStart number place area) (λ m windows. startIn m windows area)) asked
       ∙ ap (λ r. choose r (λ u. noStart 12 0 area) (λ u. choose (some tooLarge (filledBy m windows)) (λ u. noStart 14 0 area) (λ u. record { answer = StartAnswer.Started; area = startedArea m windows area }))) room
+
+  -- a start that is accepted found no leaf too large
+  pub started-low : start file lower area .answer ≡ StartAnswer.Started → some tooLarge (filledBy m windows) ≡ false
+  started-low e = by (some tooLarge (filledBy m windows)) refl (sym (ap (λ s. s .answer) start-is) ∙ e)
+    where
+      by : (t : Bool) → some tooLarge (filledBy m windows) ≡ t → choose t (λ u. noStart 14 0 area) (λ u. record { answer = StartAnswer.Started; area = startedArea m windows area }) .answer ≡ StartAnswer.Started → some tooLarge (filledBy m windows) ≡ false
+      by false p d = p
+      by true p d = let z : _≡_ {A = ℕ} 0 1 = cc in absurd (omega arith)
 
   advance-is : (n : ℕ) → advance file lower 0 n (startedArea m windows area) ≡ told m windows (spend (2 ^ 64) (take n (pairsListed m windows)) 0 (startedArea m windows area))
   unfolding advance advanceIn noRoom

@@ -40,10 +40,10 @@ module _ (m : Model) (g : Guaranteed m) where
   unfolding centresOf
   length-centres = length-map (from 1 (m .centres)) (λ c. queue (loadsOf m c)) ∙ length-from 1 (m .centres)
 
-  length-routes : length (routesOf (centresOf m)) ≡ m .centres
+  pub length-routes : length (routesOf (centresOf m)) ≡ m .centres
   length-routes = length-map (centresOf m) (λ c. c .route) ∙ length-centres
 
-  length-loads : (c : ℕ) → c < m .centres → length (loadsOf m (suc c)) ≡ m .chains
+  pub length-loads : (c : ℕ) → c < m .centres → length (loadsOf m (suc c)) ≡ m .chains
   unfolding loadsOf
   length-loads c h =
       let d : suc c - 1 ≡ c = omega arith in
@@ -68,7 +68,7 @@ module _ (m : Model) (g : Guaranteed m) where
   visit-some zero f = absurd (f refl)
   visit-some (suc load) f = refl
 
-  load-at : (c k : ℕ) → c < m .centres → k < m .chains → getD (loadsOf m (suc c)) k 0 ≡ getD (m .loads) (c * 8 + k) 0
+  pub load-at : (c k : ℕ) → c < m .centres → k < m .chains → getD (loadsOf m (suc c)) k 0 ≡ getD (m .loads) (c * 8 + k) 0
   unfolding loadsOf
   load-at c k h l =
       let d : (suc c - 1) * 8 + k ≡ c * 8 + k = omega arith in

@@ -68,6 +68,15 @@ getD-in d [] i h = absurd (omega arith)
 getD-in d (x ∷ xs) zero h = List·Memᴰ·head refl
 getD-in d (x ∷ xs) (suc i) h = List·Memᴰ·tail (getD-in d xs i (omega arith))
 
+-- a bound on each entry is a bound on each member
+pub low-member : (xs : List ℕ) (bound : ℕ) → ((i : ℕ) → getD xs i 0 ≤ bound) → (x : ℕ) → List·Memᴰ x xs → x ≤ bound
+low-member [] bound f x m = absurd (List·Memᴰ·not-nil m)
+low-member (y ∷ ys) bound f x m = by (List·Memᴰ·cases-cons m) (low-member ys bound (λ i. f (suc i)) x)
+  where
+    by : (x ≡ y) ⊎ List·Memᴰ x ys → (List·Memᴰ x ys → x ≤ bound) → x ≤ bound
+    by (inl e) k = omega (arith, f 0)
+    by (inr n) k = k n
+
 -- ---- no element twice
 
 module _ {A : Type 0} where
