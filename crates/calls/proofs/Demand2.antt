@@ -114,10 +114,11 @@ module _ (file : List ℕ) (lower : ℕ) (m : Model) (windows : List ℕ) (asked
     pub demand-2 : Exact file lower m windows b bs area
     unfolding spent
     demand-2 = record {
-        answered = λ low. ap (λ r. r .answer) (went-ends low);
-        last-cell = λ low. ap (λ r. getD (r .area) (cellsIn m windows - 1) 0) (went-ends low) ∙ last-value m windows f area held (b + sum bs) reach (went-on low .1);
-        too-large = large-ends;
-        only-then = only-large }
+      answered = λ low. ap (λ r. r .answer) (went-ends low);
+      last-cell = λ low. ap (λ r. getD (r .area) (cellsIn m windows - 1) 0) (went-ends low) ∙ last-value m windows f area held (b + sum bs) reach (went-on low .1);
+      too-large = large-ends;
+      only-then = only-large;
+    }
 
   -- no cell that a run writes ever exceeds the value: whatever the budgets, where the start was accepted
   pub never-above : start file lower area .answer ≡ StartAnswer.Started → (i : ℕ) → i < cellsIn m windows → getD (run file lower b bs area .area) i 0 ≤ exact m windows

@@ -68,7 +68,8 @@ first-pairs m windows A f b =
       number = w .number ∙ zero-add (w .steps);
       left = w .left ∙ ap (λ ps. pairsRun ps A) (take-take (w .steps) b (pairsListed m windows) few);
       all = λ e. w .onward e ∙ n;
-      fewer = λ e. let r = w .reached e in (omega (arith, r .0, n), subst (λ p. 2 ^ 64 ≤ sumAt (spend (2 ^ 64) (take b (pairsListed m windows)) 0 A .area) p) (getD-take b (pairsListed m windows) (w .steps) nothing (omega (arith, r .0, length-take b (pairsListed m windows)))) (r .1)) }
+      fewer = λ e. let r = w .reached e in (omega (arith, r .0, n), subst (λ p. 2 ^ 64 ≤ sumAt (spend (2 ^ 64) (take b (pairsListed m windows)) 0 A .area) p) (getD-take b (pairsListed m windows) (w .steps) nothing (omega (arith, r .0, length-take b (pairsListed m windows)))) (r .1));
+    }
 
 -- ---- the number of pairs
 

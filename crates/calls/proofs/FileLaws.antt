@@ -89,13 +89,14 @@ module _ (m : Model) (g : Guaranteed m) where
 
   pub fit : (windows : List ℕ) → length windows ≡ m .chains → ((k : ℕ) → getD windows k 0 ≤ 15) → Fit m windows
   fit windows h low = record {
-      wide = λ c k. let r = queue-of c k in subst (λ c. (length (c .route) ≡ length windows) × Off c) (r .2) (length-map (loadsOf m (suc (r .0))) visit ∙ length-loads (r .0) (r .1) ∙ sym h, queue-off (loadsOf m (suc (r .0))));
-      on = λ c k. let r = queue-of c k in subst On (r .2) (queue-on (loadsOf m (suc (r .0))));
-      visited = λ k i. chain k i;
-      every = subst (λ n. List·Permᴰ (under (treeOf m)) (from 1 n)) (sym length-routes) (g .leaves);
-      centres-few = omega (arith, length-routes, g .centres-range);
-      windows-few = omega (arith, g .chains-range);
-      windows-low = low }
+    wide = λ c k. let r = queue-of c k in subst (λ c. (length (c .route) ≡ length windows) × Off c) (r .2) (length-map (loadsOf m (suc (r .0))) visit ∙ length-loads (r .0) (r .1) ∙ sym h, queue-off (loadsOf m (suc (r .0))));
+    on = λ c k. let r = queue-of c k in subst On (r .2) (queue-on (loadsOf m (suc (r .0))));
+    visited = λ k i. chain k i;
+    every = subst (λ n. List·Permᴰ (under (treeOf m)) (from 1 n)) (sym length-routes) (g .leaves);
+    centres-few = omega (arith, length-routes, g .centres-range);
+    windows-few = omega (arith, g .chains-range);
+    windows-low = low;
+  }
     where
       there : (k : ℕ) → k < m .chains → some (visits (routesOf (centresOf m)) (suc k)) (from 1 (length (routesOf (centresOf m)))) ≡ true
       there k l =

@@ -4,3 +4,6 @@ pub mod SlotLaws
 pub mod ExactLaws
 pub mod Demand2
 pub mod Demand3
+pub mod Demand1
+pub mod Determined
+pub mod WrongPrograms

@@ -85,6 +85,8 @@ pub record Starred : Type 0 where
   pub B-lowered-2 : runOf 11 B 2 6 ≡ 0 ∷ 0 ∷ 3 ∷ 4 ∷ []
   pub B-sheet : sheet B (replicate 11 7) .answer ≡ record { refusal = 0; place = 0; value = 14; pairs = 6; cells = 11; chains = 2; numerators = 3 ∷ 4 ∷ 0 ∷ 0 ∷ 0 ∷ 0 ∷ 0 ∷ 0 ∷ []; busiest = 1 }
   pub B-sheet-area : sheet B (replicate 12 7) .area ≡ replicate 11 0 ++ (7 ∷ [])
+  pub B-started : startNumbers (started 12 B 0 .answer) ≡ 0 ∷ 0 ∷ []
+  pub B-started-area : started 12 B 0 .area ≡ 1 ∷ 2 ∷ 1 ∷ 4 ∷ 1 ∷ 3 ∷ 0 ∷ 0 ∷ 1 ∷ 1 ∷ 0 ∷ 7 ∷ []
   pub B-area-0 : advanced 12 B 0 0 .area ≡ 1 ∷ 2 ∷ 1 ∷ 4 ∷ 1 ∷ 3 ∷ 0 ∷ 0 ∷ 1 ∷ 1 ∷ 0 ∷ 7 ∷ []
   pub B-area-1 : advanced 12 B 0 1 .area ≡ 1 ∷ 2 ∷ 1 ∷ 4 ∷ 1 ∷ 3 ∷ 3 ∷ 0 ∷ 1 ∷ 1 ∷ 0 ∷ 7 ∷ []
   pub B-area-3 : advanced 12 B 0 3 .area ≡ 1 ∷ 2 ∷ 1 ∷ 4 ∷ 1 ∷ 3 ∷ 4 ∷ 6 ∷ 1 ∷ 1 ∷ 0 ∷ 7 ∷ []
@@ -131,6 +133,8 @@ starred = record {
   B-lowered-2 = refl;
   B-sheet = refl;
   B-sheet-area = refl;
+  B-started = refl;
+  B-started-area = refl;
   B-area-0 = refl;
   B-area-1 = refl;
   B-area-3 = refl;

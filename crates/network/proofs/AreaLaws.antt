@@ -61,10 +61,11 @@ module _ (routes : List Route) (windows : List ℕ) where
   pub laid-agree : (f : Tree → List ℕ → ℕ) (A B : List ℕ) (t : Tree) (start : ℕ) → Agree A B start (start + allCells routes windows t) → Laid f A t start → Laid f B t start
   unfolding allCells
   laid-agree f A B (leaf c) start s h = λ v i. let b = cell-in (leaf c) start v i in s (cellOf routes windows (leaf c) start v) (omega (arith, base-from (leaf c) start)) (b .1) ∙ h v i
-  laid-agree f A B (join l r) start s h =
-      (laid-agree f A B l start (λ i a b. s i a (omega arith)) (h .0),
-      laid-agree f A B r (start + allCells routes windows l) (λ i a b. s i (omega arith) (omega arith)) (h .1),
-      λ v i. let b = cell-in (join l r) start v i in s (cellOf routes windows (join l r) start v) (omega (arith, base-from (join l r) start)) (b .1) ∙ h .2 v i)
+  laid-agree f A B (join l r) start s h = (
+    laid-agree f A B l start (λ i a b. s i a (omega arith)) (h .0),
+    laid-agree f A B r (start + allCells routes windows l) (λ i a b. s i (omega arith) (omega arith)) (h .1),
+    λ v i. let b = cell-in (join l r) start v i in s (cellOf routes windows (join l r) start v) (omega (arith, base-from (join l r) start)) (b .1) ∙ h .2 v i,
+  )
 
   -- ---- a spread area
 
@@ -95,8 +96,9 @@ module _ (routes : List Route) (windows : List ℕ) where
       let y : (pre ++ L) ++ (R ++ (M ++ post)) ≡ pre ++ ((L ++ (R ++ M)) ++ post) = simp append-assoc in
       let z : ((pre ++ L) ++ R) ++ (M ++ post) ≡ pre ++ ((L ++ (R ++ M)) ++ post) = simp append-assoc in
       let b : start + allCells routes windows l ≡ length (pre ++ L) = omega (arith, length-append pre L, length-spread f l) in
-      let d : start + (allCells routes windows l + allCells routes windows r) ≡ length ((pre ++ L) ++ R) = omega (arith, length-append (pre ++ L) R, length-append pre L, length-spread f l, length-spread f r) in
-      (subst (λ A. Laid f A l start) x (spread-laid f l pre (R ++ (M ++ post)) start e),
-      subst (λ A. Laid f A r (start + allCells routes windows l)) y (spread-laid f r (pre ++ L) (M ++ post) (start + allCells routes windows l) b),
-      subst (λ A. (v : List ℕ) → Inside (spansAt routes windows (join l r)) v → getD A (start + (allCells routes windows l + allCells routes windows r) + place (spansAt routes windows (join l r)) v) 0 ≡ f (join l r) v) z
-      (λ v i. array-in (f (join l r)) (join l r) ((pre ++ L) ++ R) post v (start + (allCells routes windows l + allCells routes windows r)) d i))
+      let d : start + (allCells routes windows l + allCells routes windows r) ≡ length ((pre ++ L) ++ R) = omega (arith, length-append (pre ++ L) R, length-append pre L, length-spread f l, length-spread f r) in (
+        subst (λ A. Laid f A l start) x (spread-laid f l pre (R ++ (M ++ post)) start e),
+        subst (λ A. Laid f A r (start + allCells routes windows l)) y (spread-laid f r (pre ++ L) (M ++ post) (start + allCells routes windows l) b),
+        subst (λ A. (v : List ℕ) → Inside (spansAt routes windows (join l r)) v → getD A (start + (allCells routes windows l + allCells routes windows r) + place (spansAt routes windows (join l r)) v) 0 ≡ f (join l r) v) z
+            (λ v i. array-in (f (join l r)) (join l r) ((pre ++ L) ++ R) post v (start + (allCells routes windows l + allCells routes windows r)) d i),
+      )

@@ -1,13 +1,15 @@
--- How many pairs: the listed order is as long as the product formula says, never longer than the plain method's, and neither reaches 2^63.
+-- How many pairs: the listed order is as long as the product formula says, never longer than the plain method's, and neither reaches 2^63;
+-- and every pair's result is one of the tree's cells.
 use Prim.Native.Nat.{ℕ, zero, suc, _+_, _*_, _-_, _^_, _/_, _≤_, _<_}
 use mathlib.Core.Path.{_≡_, refl, sym, ap, subst, _∙_}
-use mathlib.Core.List.{List, [], _∷_, _++_, map, flatMap, List·Memᴰ, List·Memᴰ·head, List·Memᴰ·tail, List·Permᴰ}
+use mathlib.Core.Logic.{_⊎_, inl, inr}
+use mathlib.Core.List.{List, [], _∷_, _++_, map, flatMap, List·Memᴰ, List·Memᴰ·head, List·Memᴰ·tail, List·Memᴰ·not-nil, List·Memᴰ·append-cases, Memᴰ·of-map, List·Permᴰ}
 use native.Mathlib.Omega.{arith}
 use native.Mathlib.Nat.{le-refl, le-trans, mul-le-mul, pow-suc, pow-le-pow-right}
 use lib.ListN.{length, getD, length-append, length-map}
 use Rattle.sums.specs.Lists.{from}
 use Rattle.sums.specs.Sums.{sumOver}
-use Rattle.sums.proofs.ListLaws.{length-from}
+use Rattle.sums.proofs.ListLaws.{length-from, flat-out}
 use Rattle.sums.proofs.PermLaws.{perm-length}
 use Rattle.sums.proofs.SumLaws.{sumOver-ext, length-flat-sum}
 use Rattle.network.specs.Centre.{Route}
@@ -16,7 +18,9 @@ use Rattle.network.specs.Cells.{indices, spansAt, allCells, cellOf}
 use Rattle.network.specs.Pairs.{Pair, indexPairs, triangle, triangles, factors, ownPairs, listed, allPairs, plainPairs}
 use Rattle.network.proofs.CoverageLaws.{Parted, parted-left, parted-right, meets}
 use Rattle.network.proofs.PairLaws.{pairs-count, factors-le}
+use Rattle.network.proofs.CellLaws.{indices-out}
 use Rattle.network.proofs.NodeLaws.{coverages-length}
+use Rattle.network.proofs.AreaLaws.{cell-in, base-join, base-room}
 
 module _ (routes : List Route) (windows : List ℕ) where
   own-count : (l r : Tree) (rest : List ℕ) → Parted routes (under (join l r)) rest → (start : ℕ) → length (ownPairs routes windows l r start) ≡ factors (coverages routes (length windows) l) (coverages routes (length windows) r) (coverages routes (length windows) (join l r)) windows
@@ -33,10 +37,13 @@ module _ (routes : List Route) (windows : List ℕ) where
   length-listed (join l r) rest parted start =
       let second = start + allCells routes windows l in
       length-append (listed routes windows l start) (listed routes windows r second ++ ownPairs routes windows l r start)
-      ∙ omega (arith, length-append (listed routes windows r second) (ownPairs routes windows l r start),
-      length-listed l (under r ++ rest) (parted-left routes (under l) (under r) rest parted) start,
-      length-listed r (under l ++ rest) (parted-right routes (under l) (under r) rest parted) second,
-      own-count l r rest parted start)
+      ∙ omega (
+        arith,
+        length-append (listed routes windows r second) (ownPairs routes windows l r start),
+        length-listed l (under r ++ rest) (parted-left routes (under l) (under r) rest parted) start,
+        length-listed r (under l ++ rest) (parted-right routes (under l) (under r) rest parted) second,
+        own-count l r rest parted start,
+      )
 
   -- joins are one fewer than leaves, and none has more pairs than a step of the plain method
   under-some : (t : Tree) → 1 ≤ length (under t)
@@ -86,3 +93,33 @@ plain-below centres windows h k f =
     let a : centres - 1 ≤ 15 = omega arith in
     let c : (centres - 1) * triangles windows ≤ 15 * 136 ^ 8 = mul-le-mul a b in
     omega arith
+
+-- ---- every pair's result is one of the tree's cells
+
+module _ (routes : List Route) (windows : List ℕ) where
+  own-result : (l r : Tree) (start : ℕ) (p : Pair) → List·Memᴰ p (ownPairs routes windows l r start) → p .result < start + allCells routes windows (join l r)
+  unfolding ownPairs
+  own-result l r start p m =
+      let f = flat-out (λ v. map (pairOf v) (indexPairs (coverages routes (length windows) l) (coverages routes (length windows) r) v)) (indices (spansAt routes windows (join l r))) m in
+      let q = Memᴰ·of-map (pairOf (f .0)) (indexPairs (coverages routes (length windows) l) (coverages routes (length windows) r) (f .0)) (f .2) in
+      subst (λ x. x .result < start + allCells routes windows (join l r)) (q .2) (cell-in routes windows (join l r) start (f .0) (indices-out (spansAt routes windows (join l r)) (f .0) (f .1)) .1)
+    where
+      pairOf : List ℕ → List ℕ × List ℕ → Pair
+      pairOf v p = record { left = cellOf routes windows l start (p .0); right = cellOf routes windows r (start + allCells routes windows l) (p .1); result = cellOf routes windows (join l r) start v }
+
+  pub listed-result : (t : Tree) (start : ℕ) (p : Pair) → List·Memᴰ p (listed routes windows t start) → p .result < start + allCells routes windows t
+  unfolding listed
+  listed-result (leaf c) start p m = absurd (List·Memᴰ·not-nil m)
+  listed-result (join l r) start p m = first (listed-result l start p) (listed-result r (start + allCells routes windows l) p) (List·Memᴰ·append-cases (listed routes windows l start) m)
+    where
+      room : start + (allCells routes windows l + allCells routes windows r) ≤ start + allCells routes windows (join l r)
+      room = omega (arith, base-room routes windows (join l r) start, base-join routes windows l r start)
+
+      second : (List·Memᴰ p (listed routes windows r (start + allCells routes windows l)) → p .result < start + allCells routes windows l + allCells routes windows r) → List·Memᴰ p (listed routes windows r (start + allCells routes windows l)) ⊎ List·Memᴰ p (ownPairs routes windows l r start) → p .result < start + allCells routes windows (join l r)
+      second g (inl n) = omega (arith, g n, room)
+      second g (inr n) = own-result l r start p n
+
+      first : (List·Memᴰ p (listed routes windows l start) → p .result < start + allCells routes windows l) → (List·Memᴰ p (listed routes windows r (start + allCells routes windows l)) → p .result < start + allCells routes windows l + allCells routes windows r)
+          → List·Memᴰ p (listed routes windows l start) ⊎ List·Memᴰ p (listed routes windows r (start + allCells routes windows l) ++ ownPairs routes windows l r start) → p .result < start + allCells routes windows (join l r)
+      first f g (inl n) = omega (arith, f n, room)
+      first f g (inr n) = second g (List·Memᴰ·append-cases (listed routes windows r (start + allCells routes windows l)) n)

@@ -42,6 +42,10 @@ pub length-add : (A : List ℕ) (p : Pair) → length (add A p) ≡ length A
 unfolding add
 length-add A p = length-set A (p .result) (sumAt A p)
 
+pub add-other : (A : List ℕ) (p : Pair) (i : ℕ) → (i ≡ p .result → ⊥) → getD (add A p) i 0 ≡ getD A i 0
+unfolding add
+add-other A p i f = getD-set-other A (p .result) i (sumAt A p) 0 f
+
 pub length-run : (ps : List Pair) (A : List ℕ) → length (run ps A) ≡ length A
 unfolding run
 length-run [] A = refl

@@ -4,7 +4,7 @@ use Prim.Native.Nat.{ℕ, zero, suc, _+_, _-_, _≤_, _<_, min}
 use mathlib.Core.Path.{_≡_, refl, sym, ap, subst, _∙_}
 use mathlib.Core.Bool.{Bool, true, false, true≢false}
 use mathlib.Core.Logic.{_⊎_, inl, inr}
-use mathlib.Core.List.{List, [], _∷_, _++_, List·Memᴰ, List·Memᴰ·not-nil, List·Memᴰ·cases-cons}
+use mathlib.Core.List.{List, [], _∷_, _++_, List·Memᴰ, List·Memᴰ·head, List·Memᴰ·tail, List·Memᴰ·not-nil, List·Memᴰ·cases-cons}
 use native.Mathlib.Omega.{arith}
 use native.Mathlib.Nat.{add-zero}
 use lib.Dec.{ltb, leb}
@@ -14,7 +14,7 @@ use borrow.Author.Tests.{leb-true, leb-false, ltb-true, ltb-false}
 use Rattle.sums.specs.Choice.{choose}
 use Rattle.network.specs.Pairs.{Pair}
 use Rattle.network.specs.Run.{sumAt, add, Progress, spend}
-use Rattle.network.proofs.RunLaws.{run, trace, length-add}
+use Rattle.network.proofs.RunLaws.{run, trace, length-add, add-other}
 
 -- stands for a pair past the end
 abbrev pub nothing : Pair
@@ -99,22 +99,26 @@ went m (p ∷ ps) done A = by (ltb (sumAt A p) m) refl (went m ps (suc done) (ad
     by : (t : Bool) → ltb (sumAt A p) m ≡ t → Went m ps (suc done) (add A p) → Went m (p ∷ ps) done A
     by true e w =
         let d : spend m (p ∷ ps) done A ≡ spend m ps (suc done) (add A p) = ap here e in
-        record { steps = suc (w .steps);
+        record {
+          steps = suc (w .steps);
           leads = ap suc (w .leads) ∙ ap (λ t. choose t (λ u. suc (lead m (trace ps (add A p)))) (λ u. 0)) (sym e);
           few = omega (arith, w .few);
           number = ap (λ x. x .done) d ∙ w .number ∙ omega arith;
           left = ap (λ x. x .area) d ∙ w .left;
           onward = λ s. ap suc (w .onward (sym (ap (λ x. x .stopped) d) ∙ s));
-          reached = λ s. let r = w .reached (sym (ap (λ x. x .stopped) d) ∙ s) in (omega (arith, r .0), subst (λ x. m ≤ sumAt (x .area) (getD ps (w .steps) nothing)) (sym d) (r .1)) }
+          reached = λ s. let r = w .reached (sym (ap (λ x. x .stopped) d) ∙ s) in (omega (arith, r .0), subst (λ x. m ≤ sumAt (x .area) (getD ps (w .steps) nothing)) (sym d) (r .1));
+        }
     by false e w =
         let d : spend m (p ∷ ps) done A ≡ record { done = done; area = A; stopped = true } = ap here e in
-        record { steps = 0;
+        record {
+          steps = 0;
           leads = ap (λ t. choose t (λ u. suc (lead m (trace ps (add A p)))) (λ u. 0)) (sym e);
           few = omega arith;
           number = ap (λ x. x .done) d ∙ sym (add-zero done);
           left = ap (λ x. x .area) d;
           onward = λ s. absurd (true≢false (sym (ap (λ x. x .stopped) d) ∙ s));
-          reached = λ s. (omega arith, subst (λ x. m ≤ sumAt (x .area) p) (sym d) (ltb-false (sumAt A p) m e)) }
+          reached = λ s. (omega arith, subst (λ x. m ≤ sumAt (x .area) p) (sym d) (ltb-false (sumAt A p) m e));
+        }
 
 -- where all lead below m, each is below m
 pub lead-below : (m : ℕ) (xs : List ℕ) → lead m xs ≡ length xs → (x : ℕ) → List·Memᴰ x xs → x < m
@@ -126,3 +130,13 @@ lead-below m (y ∷ ys) e x k = by (ltb y m) refl e (List·Memᴰ·cases-cons k)
     by true t d (inl s) f = omega (arith, ltb-true y m t)
     by true t d (inr n) f = f (omega arith) x n
     by false t d o f = absurd (omega arith)
+
+-- a cell that is no pair's result stays
+pub spend-past : (m : ℕ) (ps : List Pair) (done : ℕ) (A : List ℕ) (i : ℕ) → ((p : Pair) → List·Memᴰ p ps → i ≡ p .result → ⊥) → getD (spend m ps done A .area) i 0 ≡ getD A i 0
+unfolding spend
+spend-past m [] done A i f = refl
+spend-past m (p ∷ ps) done A i f = by (ltb (sumAt A p) m) (spend-past m ps (suc done) (add A p) i (λ q k. f q (List·Memᴰ·tail k)))
+  where
+    by : (t : Bool) → getD (spend m ps (suc done) (add A p) .area) i 0 ≡ getD (add A p) i 0 → getD ((choose t (λ u. spend m ps (suc done) (add A p)) (λ u. record { done = done; area = A; stopped = true })) .area) i 0 ≡ getD A i 0
+    by true k = k ∙ add-other A p i (f p (List·Memᴰ·head refl))
+    by false k = refl

@@ -61,12 +61,13 @@ module _ (centres : List Centre) (windows : List ℕ) (wide : AllWide (length wi
     own-clear : (n : ℕ) → start + allCells routes windows (join l r) ≤ n → Clear (base routes windows (join l r) start) (cellOf routes windows (join l r) start) theirs n (indices (spansAt routes windows (join l r)))
     unfolding theirs numbered base allCells cellOf
     own-clear n h = record {
-        factors = λ v m p o.
-        let t = Memᴰ·of-map numbered (indexPairs (coverages routes (length windows) l) (coverages routes (length windows) r) v) o in
-        let i = index-pair v m (t .0) (t .1) in
-        (omega (arith, cell-in routes windows l start (t .0 .0) (i .0) .1, ap (λ y. y .0) (t .2)), omega (arith, cell-in routes windows r (start + allCells routes windows l) (t .0 .1) (i .1) .1, ap (λ y. y .1) (t .2)));
-        results = λ v m. let c = cell-in routes windows (join l r) start v (indices-out (spansAt routes windows (join l r)) v m) in (c .0, omega (arith, c .1));
-        differ = λ u v m o e. place-same (indices-out (spansAt routes windows (join l r)) u m) (indices-out (spansAt routes windows (join l r)) v o) (omega arith) }
+      factors = λ v m p o.
+          let t = Memᴰ·of-map numbered (indexPairs (coverages routes (length windows) l) (coverages routes (length windows) r) v) o in
+          let i = index-pair v m (t .0) (t .1) in
+          (omega (arith, cell-in routes windows l start (t .0 .0) (i .0) .1, ap (λ y. y .0) (t .2)), omega (arith, cell-in routes windows r (start + allCells routes windows l) (t .0 .1) (i .1) .1, ap (λ y. y .1) (t .2)));
+      results = λ v m. let c = cell-in routes windows (join l r) start v (indices-out (spansAt routes windows (join l r)) v m) in (c .0, omega (arith, c .1));
+      differ = λ u v m o e. place-same (indices-out (spansAt routes windows (join l r)) u m) (indices-out (spansAt routes windows (join l r)) v o) (omega arith);
+    }
 
     module _ (A : List ℕ) (room : start + allCells routes windows (join l r) ≤ length A) (left : Holds routes windows nodeValue A l start) (right : Holds routes windows nodeValue A r (start + allCells routes windows l)) (zeros : Holds routes windows (λ t v. 0) A (join l r) start) where
       -- what the pairs multiply are the children's values
@@ -144,11 +145,13 @@ module _ (centres : List Centre) (windows : List ℕ) (wide : AllWide (length wi
       let same3 = own-same l r rest parted start C room3 ownL ownR zeros in
       record {
         same = λ i o. ap (λ E. getD E i 0) end ∙ same3 i (inside i o) ∙ ranR .same i (beyondR i o) ∙ ranL .same i (beyondL i o);
-        laid = subst (λ E. Laid routes windows nodeValue E (join l r) start) (sym end)
-        (laid-agree routes windows nodeValue C D l start (λ i a b. same3 i (inl (omega (arith, below)))) left,
-        laid-agree routes windows nodeValue C D r second (λ i a b. same3 i (inl (omega (arith, below)))) (ranR .laid),
-        own-holds l r rest parted start C room3 ownL ownR zeros);
-        traced = trace-append L (R ++ O) A ∙ (λ i. ranL .traced i ++ (trace-append R O B ∙ (λ j. ranR .traced j ++ own-traced l r rest parted start C room3 ownL ownR zeros j)) i) }
+        laid = subst (λ E. Laid routes windows nodeValue E (join l r) start) (sym end) (
+          laid-agree routes windows nodeValue C D l start (λ i a b. same3 i (inl (omega (arith, below)))) left,
+          laid-agree routes windows nodeValue C D r second (λ i a b. same3 i (inl (omega (arith, below)))) (ranR .laid),
+          own-holds l r rest parted start C room3 ownL ownR zeros,
+        );
+        traced = trace-append L (R ++ O) A ∙ (λ i. ranL .traced i ++ (trace-append R O B ∙ (λ j. ranR .traced j ++ own-traced l r rest parted start C room3 ownL ownR zeros j)) i);
+      }
     where
       whole : start + (allCells routes windows l + allCells routes windows r) ≤ start + allCells routes windows (join l r)
       whole = base-room routes windows (join l r) start

@@ -6,7 +6,7 @@ use mathlib.Core.HLevel.{⊥-prop}
 use mathlib.Core.List.{List, [], _∷_, _++_, map, flatMap, List·Mem, List·Memᴰ, List·Memᴰ·head, List·Memᴰ·tail, List·Memᴰ·cases-cons, List·Memᴰ·append-cases, List·Memᴰ·not-nil, Memᴰ·append-left, Memᴰ·append-right, Memᴰ·map, Memᴰ·of-map, Memᴰ·cast, List·Nodup, nodup-nil, nodup-cons}
 use native.Mathlib.Omega.{arith}
 use native.Mathlib.Nat.{zero-mul, add-zero}
-use lib.ListN.{length, getD, length-append, length-map, List·getD-append}
+use lib.ListN.{length, getD, take, drop, take-append-drop, length-append, length-map, List·getD-append}
 use lib.Seq.{getD-append-add}
 use Rattle.sums.specs.Lists.{from}
 
@@ -67,6 +67,12 @@ pub getD-in : {A : Type 0} (d : A) (xs : List A) (i : ℕ) → i < length xs →
 getD-in d [] i h = absurd (omega arith)
 getD-in d (x ∷ xs) zero h = List·Memᴰ·head refl
 getD-in d (x ∷ xs) (suc i) h = List·Memᴰ·tail (getD-in d xs i (omega arith))
+
+pub take-member : {A : Type 0} {a : A} (n : ℕ) (xs : List A) → List·Memᴰ a (take n xs) → List·Memᴰ a xs
+take-member {a = a} n xs m = subst (λ l. List·Memᴰ a l) (take-append-drop n xs) (Memᴰ·append-left (drop n xs) m)
+
+pub drop-member : {A : Type 0} {a : A} (n : ℕ) (xs : List A) → List·Memᴰ a (drop n xs) → List·Memᴰ a xs
+drop-member {a = a} n xs m = subst (λ l. List·Memᴰ a l) (take-append-drop n xs) (Memᴰ·append-right (take n xs) m)
 
 -- a bound on each entry is a bound on each member
 pub low-member : (xs : List ℕ) (bound : ℕ) → ((i : ℕ) → getD xs i 0 ≤ bound) → (x : ℕ) → List·Memᴰ x xs → x ≤ bound
