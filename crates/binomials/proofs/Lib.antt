@@ -1,0 +1,2 @@
+pub mod PascalLaws
+pub mod Entries
