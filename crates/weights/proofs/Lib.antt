@@ -1,0 +1,2 @@
+pub mod PowerLaws
+pub mod WeightLaws
