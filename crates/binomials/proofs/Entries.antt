@@ -143,6 +143,9 @@ fitting : T (every (λ x. ltb x (2 ^ 64)) table)
 unfolding table
 fitting = tt
 
+pub table-length : length table ≡ 1936
+table-length = tested .0
+
 pub table-at : (n k : ℕ) → n ≤ 120 → k ≤ 15 → getD table (n * 16 + k) 0 ≡ binomial n k
 table-at n k hn hk = binomial-at table tested n k hn hk
 
