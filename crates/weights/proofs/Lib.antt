@@ -1,2 +1,5 @@
 pub mod PowerLaws
 pub mod WeightLaws
+pub mod MonotonyLaws
+pub mod BetweenLaws
+pub mod FillLaws

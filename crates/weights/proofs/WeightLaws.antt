@@ -15,6 +15,7 @@ use Rattle.arith.specs.declared.Fits.the-variants.{Exact, TooLarge}
 use Rattle.arith.proofs.CappedLaws.{capped-exact, capped-large, exact-says, large-says}
 use Rattle.network.specs.Weight.{binomial, multinomial, powers, weight}
 use Rattle.network.specs.Centre.{visit, fits}
+use Rattle.weights.specs.Parts.{weightAfter}
 use Rattle.weights.proofs.PowerLaws.{still-large}
 
 pub binomial-pos : (s n : ℕ) → 1 ≤ binomial (s + n) n
@@ -22,17 +23,19 @@ unfolding binomial
 binomial-pos s zero = le-refl 1
 binomial-pos s (suc n) = rw (add-suc s n) (omega (arith, binomial-pos s n))
 
--- the part of a weight that these chains make, where s messages of the chains before are there already
-unfoldable pub weightAfter : ℕ → List ℕ → List ℕ → ℕ
-weightAfter s loads ns = multinomial s ns * powers loads ns
-
 pub weight-whole : (loads ns : List ℕ) → 1 * weightAfter 0 loads ns ≡ weight loads ns
 unfolding weightAfter weight
 weight-whole loads ns = omega arith
 
-after-more : (s load n : ℕ) (loads ns : List ℕ) → weightAfter s (load ∷ loads) (n ∷ ns) ≡ load ^ n * binomial (s + n) n * weightAfter (s + n) loads ns
+pub after-more : (s load n : ℕ) (loads ns : List ℕ) → weightAfter s (load ∷ loads) (n ∷ ns) ≡ load ^ n * binomial (s + n) n * weightAfter (s + n) loads ns
 unfolding weightAfter multinomial powers
 after-more s load n loads ns = omega arith
+
+-- the same in the middle of two lists
+pub after-at : (loads ns : List ℕ) (k s : ℕ) → k < length loads → length ns ≡ length loads → weightAfter s (drop k loads) (drop k ns) ≡ getD loads k 0 ^ getD ns k 0 * binomial (s + getD ns k 0) (getD ns k 0) * weightAfter (s + getD ns k 0) (drop (k + 1) loads) (drop (k + 1) ns)
+after-at loads ns k s h e =
+    let l : k < length ns = omega arith in
+    rw (add-one k, drop-cons loads k 0, drop-cons ns k 0) (after-more s (getD loads k 0) (getD ns k 0) (drop (suc k) loads) (drop (suc k) ns))
 
 pub after-pos : (s : ℕ) (loads ns : List ℕ) → fits (map visit loads) ns ≡ true → 1 ≤ weightAfter s loads ns
 unfolding fits visit weightAfter multinomial powers
@@ -54,7 +57,7 @@ fits-length (zero ∷ loads) (zero ∷ ns) e = ap suc (fits-length loads ns e)
 fits-length (zero ∷ loads) (suc n ∷ ns) e = absurd (true≢false (sym e))
 fits-length (suc load ∷ loads) (n ∷ ns) e = ap suc (fits-length loads ns e)
 
-fits-drop : (k : ℕ) (loads ns : List ℕ) → fits (map visit loads) ns ≡ true → fits (map visit (drop k loads)) (drop k ns) ≡ true
+pub fits-drop : (k : ℕ) (loads ns : List ℕ) → fits (map visit loads) ns ≡ true → fits (map visit (drop k loads)) (drop k ns) ≡ true
 unfolding fits visit
 fits-drop zero loads ns e = e
 fits-drop (suc k) [] [] e = refl
@@ -92,14 +95,9 @@ module _ (loads ns : List ℕ) (f : fits (map visit loads) ns ≡ true) (acc bef
     abbrev later : ℕ
     later = weightAfter (before + n) (drop (k + 1) loads) (drop (k + 1) ns)
 
-    part-off : weightAfter before (drop k loads) (drop k ns) ≡ load ^ n * binomial (before + n) n * later
-    part-off =
-        let l : k < length ns = omega (arith, fits-length loads ns f) in
-        rw (add-one k, drop-cons loads k 0, drop-cons ns k 0) (after-more before load n (drop (suc k) loads) (drop (suc k) ns))
-
     part-on : acc * load ^ n * binomial (before + n) n * later ≡ weight loads ns
     unfolding Reached
-    part-on = omega (arith, ap (λ x. acc * x) part-off, r)
+    part-on = omega (arith, ap (λ x. acc * x) (after-at loads ns k before h (fits-length loads ns f)), r)
 
     later-pos : 1 ≤ later
     later-pos = after-pos (before + n) (drop (k + 1) loads) (drop (k + 1) ns) (fits-drop (k + 1) loads ns f)
