@@ -3,3 +3,5 @@ pub mod WeightLaws
 pub mod MonotonyLaws
 pub mod BetweenLaws
 pub mod FillLaws
+pub mod FillingLaws
+pub mod LeafLaws
