@@ -105,20 +105,20 @@ module _ (loads lows highs : List ℕ) (k acc before : ℕ) where
         (omega (arith, l .place, ap length e, cells-length acc before (drop k loads) (drop k lows) (drop k highs)), sym (append-nil (take next out)) ∙ ap (λ x. take next out ++ x) (sym e) ∙ l .list)
 
 -- past the last chain there is one cell
-module _ {loads lows highs : List ℕ} (ends : LeafEnds loads lows highs) (k acc before : ℕ) (h : k ≡ length loads) where
+module _ {loads lows highs : List ℕ} (ends : LeafEnds loads lows highs) (k : ℕ) (h : k ≡ length loads) where
   pub one-cell : length (between (drop k lows) (drop k highs)) ≡ 1
   unfolding between
   one-cell = let b : length lows ≤ k = omega (arith, ends .lows-length) in rw (drop-of-length-le lows b)
 
-  cells-end : cellsFrom acc before (drop k loads) (drop k lows) (drop k highs) ≡ acc ∷ []
+  cells-end : (acc before : ℕ) → cellsFrom acc before (drop k loads) (drop k lows) (drop k highs) ≡ acc ∷ []
   unfolding cellsFrom between weightAfter multinomial powers
-  cells-end =
+  cells-end acc before =
       let a : length loads ≤ k = omega arith in
       let b : length lows ≤ k = omega (arith, ends .lows-length) in
       rw (drop-of-length-le loads a, drop-of-length-le lows b) (ap (λ x. x ∷ []) (mul-one acc))
 
-  pub one-filled : (out : List ℕ) (at : ℕ) → at < length out → (at + 1 ≡ at + length (between (drop k lows) (drop k highs))) × (take (at + 1) (set out at acc) ≡ take at out ++ cellsFrom acc before (drop k loads) (drop k lows) (drop k highs))
-  one-filled out at l = (omega (arith, one-cell), rw (add-one at) (take-suc-set out at acc l ∙ ap (λ x. take at out ++ x) (sym cells-end)))
+  pub one-filled : (acc before : ℕ) (out : List ℕ) (at : ℕ) → at < length out → (at + 1 ≡ at + length (between (drop k lows) (drop k highs))) × (take (at + 1) (set out at acc) ≡ take at out ++ cellsFrom acc before (drop k loads) (drop k lows) (drop k highs))
+  one-filled acc before out at l = (omega (arith, one-cell), rw (add-one at) (take-suc-set out at acc l ∙ ap (λ x. take at out ++ x) (sym (cells-end acc before))))
 
 -- ---- no product is too large
 

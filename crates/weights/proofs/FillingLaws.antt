@@ -20,7 +20,10 @@ pub record Filling (loads lows highs : List ℕ) (k acc before at : ℕ) (old : 
   pub room : length out ≡ length old
   pub left : Left loads lows highs k acc before at old i next out
 
-module _ {loads lows highs : List ℕ} (ends : LeafEnds loads lows highs) {k acc before at room : ℕ} (to : ToFill loads lows highs k acc before at room) where
+module _ {loads lows highs : List ℕ} {k acc before at room : ℕ} (to : ToFill loads lows highs k acc before at room) where
+  abbrev ends : LeafEnds loads lows highs
+  ends = to .ends
+
   pub start-low : k < length loads → acc * getD loads k 0 ^ getD lows k 0 < 2 ^ 64
   start-low h = power-low ends k acc before h (to .largest) (getD lows k 0) (ends .ordered k)
 
@@ -48,6 +51,7 @@ module _ {loads lows highs : List ℕ} (ends : LeafEnds loads lows highs) {k acc
       pub deeper : ToFill loads lows highs (k + 1) (power * ways) (before + i) next (length out)
       deeper =
           record {
+            ends = ends;
             chain = omega (arith, f .inside);
             messages = omega (arith, index-small, to .messages);
             largest = subst (λ p. p * weightAfter (before + i) (drop (k + 1) loads) (drop (k + 1) highs) < 2 ^ 64) (sym (part-is ways e)) (deeper-low ends k acc before (f .inside) (to .largest) i index-low);

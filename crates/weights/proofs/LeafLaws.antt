@@ -17,7 +17,7 @@ use Rattle.weights.proofs.BetweenLaws.{top-low}
 
 pub leaf-to-fill : {loads lows highs : List ℕ} → LeafEnds loads lows highs → (room : ℕ) → room ≡ length (between lows highs) → some (λ n. leb (2 ^ 64) n) (map (weight loads) (between lows highs)) ≡ false → ToFill loads lows highs 0 1 0 0 room
 leaf-to-fill {loads} {lows} {highs} ends room e none =
-    record { chain = zero-le; messages = zero-le; largest = omega (arith, weight-whole loads highs, top-low ends none); space = omega arith }
+    record { ends = ends; chain = zero-le; messages = zero-le; largest = omega (arith, weight-whole loads highs, top-low ends none); space = omega arith }
 
 leaf-cells : (loads lows highs : List ℕ) → cellsFrom 1 0 loads lows highs ≡ map (weight loads) (between lows highs)
 unfolding cellsFrom

@@ -3,7 +3,7 @@ use Prim.Native.Nat.{ℕ, _+_, _*_, _^_, _≤_, _<_}
 use mathlib.Core.List.{List, map}
 use lib.ListN.{length, drop}
 use Rattle.network.specs.Weight.{multinomial, powers}
-use Rattle.weights.specs.Leaf.{between}
+use Rattle.weights.specs.Leaf.{between, LeafEnds}
 
 -- what these chains make of a weight, where the chains before have `before` messages there
 unfoldable pub weightAfter : ℕ → List ℕ → List ℕ → ℕ
@@ -15,6 +15,7 @@ cellsFrom acc before loads lows highs = map (λ ns. acc * weightAfter before loa
 
 -- the cells of chain k and of those after it are to be written from `at` on, into `room` cells
 pub record ToFill (loads lows highs : List ℕ) (k acc before at room : ℕ) : Type 0 where
+  pub ends : LeafEnds loads lows highs
   pub chain : k ≤ length loads
   pub messages : before ≤ 15 * k
   pub largest : acc * weightAfter before (drop k loads) (drop k highs) < 2 ^ 64

@@ -108,7 +108,6 @@ fn fill(
     at: usize,
 ) -> usize
     requires { ⌜ now rows ≡ rowsOf ⌝ }
-    requires { ⌜ LeafEnds (now loads) (now lows) (now highs) ⌝ }
     requires { ⌜ ToFill (now loads) (now lows) (now highs) k acc before at (length (now out)) ⌝ }
     ensures { λ r. ⌜ r ≡ at + length (between (drop k (now (lows .entry))) (drop k (now (highs .entry)))) ⌝ }
     ensures { λ r. ⌜ take r (now (out .exit)) ≡ take at (now (out .entry)) ++ cellsFrom acc before (drop k (now (loads .entry))) (drop k (now (lows .entry))) (drop k (now (highs .entry))) ⌝ }

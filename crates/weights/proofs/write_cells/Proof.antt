@@ -6,7 +6,7 @@ use Rattle.weights.proofs.write_cells.Statement.{statement}
 use Rattle.weights.proofs.write_cells.Tie as tie
 
 fill-requires : tie.Need-fill-requires
-fill-requires c κs = (c .before .before .before .before .before .before .pre .0, (c .before .before .before .before .before .before .pre .1 .0, leaf-to-fill (c .before .before .before .before .before .before .pre .1 .0) _ (c .before .before .before .before .before .before .pre .1 .1 .0) (c .before .before .before .before .before .before .pre .1 .1 .1)))
+fill-requires c κs = (c .before .before .before .before .before .before .pre .0, leaf-to-fill (c .before .before .before .before .before .before .pre .1 .0) _ (c .before .before .before .before .before .before .pre .1 .1 .0) (c .before .before .before .before .before .before .pre .1 .1 .1))
 
 same-length : tie.Need-same-length
 same-length c = search needs
