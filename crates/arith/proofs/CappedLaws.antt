@@ -1,14 +1,13 @@
 -- What `capped` tells of a number, both ways round, and the product by halves: (high * 2^32 + low) * b is too large where high * b
 -- reaches 2^32, or where the high half added to the sum is.
 use Prim.Native.Nat.{ℕ, _+_, _*_, _/_, _%_, _≤_, _<_, _^_}
-use mathlib.Core.Path.{_≡_, refl, sym, ap, _∙_}
+use mathlib.Core.Path.{_≡_, refl, ap, _∙_}
 use mathlib.Core.Bool.{Bool, true, false}
 use native.Mathlib.Nat.{mul-comm, mul-le-mul, div-add-mod'}
 use native.Mathlib.Omega.{arith}
 use lib.Dec.{ltb}
 use borrow.Author.Tests.{lt-ltb, le-ltb, ltb-true, ltb-false}
 use Rattle.arith.specs.Capped.{capped, exactIf}
-use Rattle.arith.specs.declared.Fits.{Fits}
 use Rattle.arith.specs.declared.Fits.the-variants.{Exact, TooLarge}
 
 pub capped-exact : {n : ℕ} → n < 2 ^ 64 → capped n ≡ Exact n

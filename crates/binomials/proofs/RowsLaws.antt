@@ -1,7 +1,7 @@
 -- The rows as a list: 1936 numbers, the binomial of n and k at 16 * n + k. So they are the numbers of the code's table.
 use Prim.Native.Nat.{ℕ, _+_, _*_, _/_, _%_, _<_, _≤_}
 use mathlib.Core.Path.{_≡_, sym, ap, _∙_}
-use mathlib.Core.List.{List, map}
+use mathlib.Core.List.{map}
 use native.Mathlib.Nat.{div-add-mod', zero-add}
 use native.Mathlib.Omega.{arith}
 use lib.ListN.{length, getD, length-map}

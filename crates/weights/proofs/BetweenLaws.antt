@@ -1,21 +1,21 @@
 -- The indices of a leaf: the highest is one of them and none lies above it, so one weight tells whether any is too large. From the
 -- ends of spans they are the indices of the spans.
-use Prim.Native.Nat.{ℕ, zero, suc, _+_, _-_, _^_, _≤_, _<_}
+use Prim.Native.Nat.{ℕ, zero, suc, _+_, _-_, _*_, _^_, _≤_, _<_, zero-le}
 use mathlib.Core.Path.{_≡_, refl, sym, ap, subst, _∙_}
 use mathlib.Core.Bool.{Bool, true, false}
 use mathlib.Core.List.{List, [], _∷_, map, flatMap, List·Memᴰ, List·Memᴰ·head, List·Memᴰ·eq-of-singleton, Memᴰ·map, Memᴰ·of-map}
-use native.Mathlib.Nat.{le-refl, le-trans}
+use native.Mathlib.Nat.{le-refl}
 use native.Mathlib.Omega.{arith}
 use lib.Dec.{leb}
-use lib.ListN.{length, getD}
+use lib.ListN.{length, getD, length-map}
 use borrow.Author.Tests.{lt-leb, leb-false}
 use Rattle.sums.specs.Lists.{from, some}
 use Rattle.sums.proofs.BoolLaws.{some-of, not-some}
-use Rattle.sums.proofs.ListLaws.{flat-in, flat-out, from-in, from-out}
-use Rattle.network.specs.Cells.{Span, only, upto, indexValues, indices}
+use Rattle.sums.proofs.ListLaws.{flat-in, flat-out, from-in, from-out, length-flat, length-from}
+use Rattle.network.specs.Cells.{Span, only, upto, indexValues, indices, size, cells}
 use Rattle.network.specs.Weight.{weight}
+use Rattle.weights.specs.Ranges.{AtMost}
 use Rattle.weights.specs.Leaf.{lowest, highest, between, LeafEnds}
-use Rattle.weights.specs.Parts.{weightAfter}
 use Rattle.weights.proofs.WeightLaws.{weight-whole}
 use Rattle.weights.proofs.MonotonyLaws.{Under, after-rises}
 
@@ -57,6 +57,33 @@ pub between-spans : (spans : List Span) → between (map lowest spans) (map high
 unfolding between indices
 between-spans [] = refl
 between-spans (s ∷ spans) = λ t. flatMap (λ i. map (λ index. i ∷ index) (between-spans spans t)) (span-values s t)
+
+values-length : (s : Span) → length (indexValues s) ≡ size s
+unfolding indexValues size
+values-length (only n) = refl
+values-length (upto n) = length-from 0 (suc n)
+
+indices-length : (spans : List Span) → length (indices spans) ≡ cells spans
+unfolding indices cells
+indices-length [] = refl
+indices-length (s ∷ spans) =
+    length-flat (λ i. map (λ index. i ∷ index) (indices spans)) (cells spans) (λ i. length-map (indices spans) (λ index. i ∷ index) ∙ indices-length spans) (indexValues s)
+    ∙ ap (λ m. m * cells spans) (values-length s)
+
+pub between-cells : (spans : List Span) → length (between (map lowest spans) (map highest spans)) ≡ cells spans
+between-cells spans = ap length (between-spans spans) ∙ indices-length spans
+
+span-ordered : (spans : List Span) → Under (map lowest spans) (map highest spans)
+unfolding lowest highest
+span-ordered [] k = le-refl 0
+span-ordered (only n ∷ spans) zero = le-refl n
+span-ordered (upto n ∷ spans) zero = zero-le
+span-ordered (s ∷ spans) (suc k) = span-ordered spans k
+
+-- spans with ends as a leaf's must be
+pub spans-ends : (loads : List ℕ) (spans : List Span) → length loads ≤ 8 → length spans ≡ length loads → AtMost 15 (map highest spans) → ((k : ℕ) → getD loads k 0 ≡ 0 → getD (map highest spans) k 0 ≡ 0) → LeafEnds loads (map lowest spans) (map highest spans)
+spans-ends loads spans few same windows absent =
+    record { few = few; lows-length = length-map spans lowest ∙ same; highs-length = length-map spans highest ∙ same; ordered = span-ordered spans; windows = windows; absent = absent }
 
 -- ---- the largest weight
 

@@ -1,10 +1,9 @@
 -- A leaf's cells chain by chain: those of chain k and on are, for each of its index values in turn, those of the chains after it. What
 -- is written and what remains always make up the whole; no product on the way is larger than the largest cell.
-use Prim.Native.Nat.{ℕ, zero, suc, _+_, _-_, _*_, _^_, _≤_, _<_}
+use Prim.Native.Nat.{ℕ, suc, _+_, _-_, _*_, _^_, _≤_, _<_}
 use mathlib.Core.Path.{_≡_, refl, sym, ap, _∙_}
-use mathlib.Core.Bool.{true}
 use mathlib.Core.List.{List, [], _∷_, _++_, map, map-map, flatMap, append-assoc, append-nil}
-use native.Mathlib.Nat.{le-refl, le-trans, mul-le-mul, mul-one}
+use native.Mathlib.Nat.{le-refl, mul-le-mul, mul-one}
 use native.Mathlib.Numerals.{add-one}
 use native.Mathlib.Omega.{arith}
 use lib.ListN.{length, getD, take, drop, set, length-map, length-append, length-drop, drop-of-length-le}
@@ -15,7 +14,7 @@ use Rattle.network.specs.Weight.{binomial, multinomial, powers}
 use Rattle.weights.specs.Leaf.{between, LeafEnds}
 use Rattle.weights.specs.Parts.{weightAfter, cellsFrom}
 use Rattle.weights.proofs.PowerLaws.{times-more}
-use Rattle.weights.proofs.WeightLaws.{binomial-pos, after-more, after-at, after-pos, fits-drop}
+use Rattle.weights.proofs.WeightLaws.{binomial-pos, after-more, after-at, after-pos}
 use Rattle.weights.proofs.MonotonyLaws.{binomial-rises, power-rises, after-rises, fits-of}
 
 map-flat : {A B C : Type 0} (f : B → C) (g : A → List B) (xs : List A) → map f (flatMap g xs) ≡ flatMap (λ x. map f (g x)) xs

@@ -1,6 +1,6 @@
 -- A whole leaf: filling from its first chain on writes the weights.
-use Prim.Native.Nat.{ℕ, _+_, _*_, _^_, _≤_, _<_, zero-le}
-use mathlib.Core.Path.{_≡_, refl, sym, ap, _∙_}
+use Prim.Native.Nat.{ℕ, _+_, _^_, zero-le}
+use mathlib.Core.Path.{_≡_, sym, _∙_}
 use mathlib.Core.Bool.{false}
 use mathlib.Core.List.{List, map, _++_}
 use native.Mathlib.Omega.{arith}
@@ -11,7 +11,7 @@ use Rattle.sums.specs.Lists.{some}
 use Rattle.sums.proofs.ListLaws.{map-cong}
 use Rattle.network.specs.Weight.{weight}
 use Rattle.weights.specs.Leaf.{between, LeafEnds}
-use Rattle.weights.specs.Parts.{weightAfter, cellsFrom, ToFill}
+use Rattle.weights.specs.Parts.{cellsFrom, ToFill}
 use Rattle.weights.proofs.WeightLaws.{weight-whole}
 use Rattle.weights.proofs.BetweenLaws.{top-low}
 

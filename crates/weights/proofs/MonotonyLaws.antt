@@ -1,10 +1,10 @@
 -- A weight does not fall where a number of messages rises: neither the binomials nor the powers do. So of all indices of a leaf the
 -- highest has the largest weight.
-use Prim.Native.Nat.{ℕ, zero, suc, _+_, _-_, _*_, _^_, _≤_}
-use mathlib.Core.Path.{_≡_, refl, sym, ap, subst, _∙_}
+use Prim.Native.Nat.{ℕ, zero, suc, _+_, _-_, _^_, _≤_}
+use mathlib.Core.Path.{_≡_, refl, subst}
 use mathlib.Core.Bool.{true}
 use mathlib.Core.List.{List, [], _∷_, map}
-use native.Mathlib.Nat.{le-refl, le-trans, mul-le-mul, add-suc, pow-le-pow-right, pow-zero}
+use native.Mathlib.Nat.{le-refl, le-trans, mul-le-mul, add-suc, pow-le-pow-right}
 use native.Mathlib.Omega.{arith}
 use lib.ListN.{length, getD}
 use Rattle.network.specs.Weight.{binomial, multinomial, powers}

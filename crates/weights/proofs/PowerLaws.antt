@@ -1,12 +1,11 @@
 -- A product made factor by factor: once it is too large it stays so, since no factor that follows is 0. Where it became too large
 -- by a load, that load is at least 1.
 use Prim.Native.Nat.{ℕ, zero, suc, _+_, _*_, _^_, _≤_, _<_}
-use mathlib.Core.Path.{_≡_, refl, sym, ap, _∙_}
-use native.Mathlib.Nat.{mul-assoc, mul-one, mul-zero, zero-mul, pow-zero, pow-suc, pow-le-pow-right, mul-le-mul, le-refl, le-trans}
+use mathlib.Core.Path.{_≡_, sym, ap, _∙_}
+use native.Mathlib.Nat.{mul-assoc, mul-one, mul-zero, pow-zero, pow-suc, pow-le-pow-right, mul-le-mul, le-refl, le-trans}
 use native.Mathlib.Numerals.{add-one}
 use native.Mathlib.Omega.{arith}
 use Rattle.arith.specs.Capped.{capped}
-use Rattle.arith.specs.declared.Fits.{Fits}
 use Rattle.arith.specs.declared.Fits.the-variants.{Exact, TooLarge}
 use Rattle.arith.proofs.CappedLaws.{capped-exact, capped-large, exact-says, large-says}
 

@@ -2,15 +2,14 @@
 -- fits, so that a part that is too large settles the whole.
 use Prim.Native.Nat.{ℕ, zero, suc, _+_, _*_, _^_, _≤_, _<_}
 use mathlib.Core.Path.{_≡_, refl, sym, ap, _∙_}
-use mathlib.Core.Bool.{Bool, true, false, true≢false}
+use mathlib.Core.Bool.{true, false, true≢false}
 use mathlib.Core.List.{List, [], _∷_, map}
-use native.Mathlib.Nat.{mul-one, one-le-mul, le-refl, le-trans, add-suc, one-le-pow}
+use native.Mathlib.Nat.{mul-one, one-le-mul, le-refl, add-suc, one-le-pow}
 use native.Mathlib.Numerals.{add-one}
 use native.Mathlib.Omega.{arith}
 use lib.ListN.{length, getD, drop, drop-of-length-le}
 use lib.Seq.{drop-cons}
 use Rattle.arith.specs.Capped.{capped}
-use Rattle.arith.specs.declared.Fits.{Fits}
 use Rattle.arith.specs.declared.Fits.the-variants.{Exact, TooLarge}
 use Rattle.arith.proofs.CappedLaws.{capped-exact, capped-large, exact-says, large-says}
 use Rattle.network.specs.Weight.{binomial, multinomial, powers, weight}

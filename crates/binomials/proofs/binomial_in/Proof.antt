@@ -1,5 +1,5 @@
 -- `binomial_in` meets its contract: the rows have the binomial of n and k at 16 * n + k.
-use Prim.Native.Nat.{ℕ, _+_, _*_}
+use Prim.Native.Nat.{_+_, _*_}
 use mathlib.Core.Path.{ap, _∙_}
 use native.Mathlib.Omega.{arith}
 use lib.ListN.{length, getD}
