@@ -5,3 +5,4 @@ pub mod BetweenLaws
 pub mod FillLaws
 pub mod FillingLaws
 pub mod LeafLaws
+pub mod SpanLaws
