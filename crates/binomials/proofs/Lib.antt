@@ -1,0 +1,3 @@
+pub mod PascalLaws
+pub mod Entries
+pub mod RowsLaws
