@@ -15,7 +15,7 @@ use Rattle.sums.proofs.SumLaws.{sumOver-ext, length-flat-sum}
 use Rattle.network.specs.Centre.{Route}
 use Rattle.network.specs.Coverage.{Tree, leaf, join, under, coverages}
 use Rattle.network.specs.Cells.{indices, spansAt, allCells, cellOf}
-use Rattle.network.specs.Pairs.{Pair, indexPairs, triangle, triangles, factors, ownPairs, listed, allPairs, plainPairs}
+use Rattle.network.specs.Pairs.{Pair, indexPairs, triangle, triangles, factors, pairAt, ownPairs, listed, allPairs, plainPairs}
 use Rattle.network.proofs.CoverageLaws.{Parted, parted-left, parted-right, meets}
 use Rattle.network.proofs.PairLaws.{pairs-count, factors-le}
 use Rattle.network.proofs.CellLaws.{indices-out}
@@ -100,12 +100,9 @@ module _ (routes : List Route) (windows : List ℕ) where
   own-result : (l r : Tree) (start : ℕ) (p : Pair) → List·Memᴰ p (ownPairs routes windows l r start) → p .result < start + allCells routes windows (join l r)
   unfolding ownPairs
   own-result l r start p m =
-      let f = flat-out (λ v. map (pairOf v) (indexPairs (coverages routes (length windows) l) (coverages routes (length windows) r) v)) (indices (spansAt routes windows (join l r))) m in
-      let q = Memᴰ·of-map (pairOf (f .0)) (indexPairs (coverages routes (length windows) l) (coverages routes (length windows) r) (f .0)) (f .2) in
+      let f = flat-out (λ v. map (pairAt routes windows l r start v) (indexPairs (coverages routes (length windows) l) (coverages routes (length windows) r) v)) (indices (spansAt routes windows (join l r))) m in
+      let q = Memᴰ·of-map (pairAt routes windows l r start (f .0)) (indexPairs (coverages routes (length windows) l) (coverages routes (length windows) r) (f .0)) (f .2) in
       subst (λ x. x .result < start + allCells routes windows (join l r)) (q .2) (cell-in routes windows (join l r) start (f .0) (indices-out (spansAt routes windows (join l r)) (f .0) (f .1)) .1)
-    where
-      pairOf : List ℕ → List ℕ × List ℕ → Pair
-      pairOf v p = record { left = cellOf routes windows l start (p .0); right = cellOf routes windows r (start + allCells routes windows l) (p .1); result = cellOf routes windows (join l r) start v }
 
   pub listed-result : (t : Tree) (start : ℕ) (p : Pair) → List·Memᴰ p (listed routes windows t start) → p .result < start + allCells routes windows t
   unfolding listed

@@ -14,3 +14,4 @@ pub mod TreeLaws
 pub mod WholeLaws
 pub mod CountLaws
 pub mod SpendLaws
+pub mod PostorderLaws

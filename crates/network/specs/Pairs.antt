@@ -60,14 +60,14 @@ module _ (routes : List Route) (windows : List ℕ) where
   abbrev pub coveredAt : Tree → List Coverage
   coveredAt t = coverages routes (length windows) t
 
-  -- a join's pairs, "result cell by result cell"; the cells of its left subtree begin at `start`, and the right one's follow
+  -- the cells of a join's left subtree begin at `start`, and the right one's follow
+  abbrev pub pairAt : Tree → Tree → ℕ → List ℕ → List ℕ × List ℕ → Pair
+  pairAt l r start index p =
+      record { left = cellOf routes windows l start (p .0); right = cellOf routes windows r (start + allCells routes windows l) (p .1); result = cellOf routes windows (join l r) start index }
+
+  -- a join's pairs, "result cell by result cell"
   unfoldable pub ownPairs : Tree → Tree → ℕ → List Pair
-  ownPairs l r start =
-      flatMap
-      (λ index. map
-      (λ p. record { left = cellOf routes windows l start (p .0); right = cellOf routes windows r (start + allCells routes windows l) (p .1); result = cellOf routes windows (join l r) start index })
-      (indexPairs (coveredAt l) (coveredAt r) index))
-      (indices (spansAt routes windows (join l r)))
+  ownPairs l r start = flatMap (λ index. map (pairAt l r start index) (indexPairs (coveredAt l) (coveredAt r) index)) (indices (spansAt routes windows (join l r)))
 
   -- "The pairs go join by join in postorder"
   unfoldable pub listed : Tree → ℕ → List Pair

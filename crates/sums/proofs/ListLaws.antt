@@ -3,7 +3,7 @@ use Prim.Native.Nat.{ℕ, zero, suc, _+_, _*_, _≤_, _<_}
 use mathlib.Core.Path.{_≡_, refl, sym, ap, subst, _∙_}
 use mathlib.Core.Logic.{_⊎_, inl, inr, ∥∥₁-elim}
 use mathlib.Core.HLevel.{⊥-prop}
-use mathlib.Core.List.{List, [], _∷_, _++_, map, flatMap, List·Mem, List·Memᴰ, List·Memᴰ·head, List·Memᴰ·tail, List·Memᴰ·cases-cons, List·Memᴰ·append-cases, List·Memᴰ·not-nil, Memᴰ·append-left, Memᴰ·append-right, Memᴰ·map, Memᴰ·of-map, Memᴰ·cast, List·Nodup, nodup-nil, nodup-cons}
+use mathlib.Core.List.{List, [], _∷_, _++_, map, flatMap, append-assoc, List·Mem, List·Memᴰ, List·Memᴰ·head, List·Memᴰ·tail, List·Memᴰ·cases-cons, List·Memᴰ·append-cases, List·Memᴰ·not-nil, Memᴰ·append-left, Memᴰ·append-right, Memᴰ·map, Memᴰ·of-map, Memᴰ·cast, List·Nodup, nodup-nil, nodup-cons}
 use native.Mathlib.Omega.{arith}
 use native.Mathlib.Nat.{zero-mul, add-zero}
 use lib.ListN.{length, getD, take, drop, take-append-drop, length-append, length-map, List·getD-append}
@@ -44,6 +44,11 @@ module _ {A B : Type 0} where
   unfolding flatMap
   flat-cong [] f g h = refl
   flat-cong (x ∷ xs) f g h = λ i. h x (List·Memᴰ·head refl) i ++ flat-cong xs f g (λ a n. h a (List·Memᴰ·tail n)) i
+
+  pub flat-append : (g : A → List B) (xs ys : List A) → flatMap g (xs ++ ys) ≡ flatMap g xs ++ flatMap g ys
+  unfolding flatMap
+  flat-append g [] ys = refl
+  flat-append g (x ∷ xs) ys = ap (λ l. g x ++ l) (flat-append g xs ys) ∙ sym (append-assoc (g x) (flatMap g xs) (flatMap g ys))
 
   -- ---- a flatMap of blocks of one length
 
