@@ -197,7 +197,7 @@ module _ (routes : List Route) (windows : List ℕ) where
           let k : i ≡ nodesIn L + nodesIn R = omega arith in
           let n : nodesIn L + nodesIn R ≡ length (postorder L start ++ postorder R second) = omega (arith, length-append (postorder L start) (postorder R second), nl, nr) in
           let w : whole ≡ (postorder L start ++ postorder R second) ++ ((join L R, start) ∷ []) = sym (append-assoc (postorder L start) (postorder R second) ((join L R, start) ∷ [])) in
-          let self : (join L R, start) ≡ (join l r, s) = sym ((λ j. getD (w j) ((k ∙ n) j) none) ∙ getD-append-seam (postorder L start ++ postorder R second) (join L R, start) [] none) ∙ e in
+          let self : _≡_ {A = Tree × ℕ} (join L R, start) (join l r, s) = sym ((λ j. getD (w j) ((k ∙ n) j) none) ∙ getD-append-seam (postorder L start ++ postorder R second) (join L R, start) [] none) ∙ e in
           let el : L ≡ l = ap (λ x. leftChild (x .0)) self in
           let er : R ≡ r = ap (λ x. rightChild (x .0)) self in
           let es : start ≡ s = ap (λ x. x .1) self in
