@@ -1,0 +1,198 @@
+#!/usr/bin/env python3
+"""A second reading of the scope document, independent of the proved crates: file, plan, runs pair by pair, value by states, sheet.
+It wrote the expected output of the programs in crates/; the gate does not need it.
+
+    tools/reference.py sheet FILE          the printed sheet
+    tools/reference.py plan LOWER FILE     number, place, cells, pairs
+    tools/reference.py damage              what the program `damage` prints
+"""
+import sys
+from itertools import product
+from math import factorial, prod
+
+LIMIT = 2 ** 64
+
+
+class Refused(Exception):
+    def __init__(self, number, place):
+        self.number, self.place = number, place
+
+
+def read(file):
+    """The model of a file: windows, loads by (centre, chain), tree as nested pairs of centre numbers."""
+    at, centres, chains, windows, loads, stack, seen, first = 0, 0, 0, [], {}, [], set(), None
+    lengths = {1: 2, 2: 2, 3: 4, 4: 1, 5: 0, 6: 0}
+    while True:
+        if at >= len(file):
+            raise Refused(1, len(file))
+        kind = file[at]
+        if centres == 0:
+            due = {1}
+        elif len(windows) < chains:
+            due = {2}
+        elif first is None:
+            due = {3, 4}
+        else:
+            due = {4, 5, 6}
+        if kind not in due:
+            raise Refused(2, at)
+        body = file[at + 1:at + 1 + lengths[kind]]
+        if len(body) < lengths[kind]:
+            raise Refused(1, len(file))
+        if kind == 1:
+            if not 1 <= body[0] <= 16:
+                raise Refused(3, at + 1)
+            if not 1 <= body[1] <= 8:
+                raise Refused(3, at + 2)
+            centres, chains = body
+        elif kind == 2:
+            if body[0] != len(windows) + 1:
+                raise Refused(3, at + 1)
+            if body[1] > 15:
+                raise Refused(3, at + 2)
+            windows.append(body[1])
+        elif kind == 3:
+            if not 1 <= body[0] <= centres:
+                raise Refused(3, at + 1)
+            if not 1 <= body[1] <= chains:
+                raise Refused(3, at + 2)
+            load = body[2] * 256 + body[3]
+            if load == 0:
+                raise Refused(3, at + 3)
+            if loads and (body[0], body[1]) <= max(loads):
+                raise Refused(4, at)
+            loads[body[0], body[1]] = load
+        elif kind == 4:
+            if not 1 <= body[0] <= centres:
+                raise Refused(3, at + 1)
+            if first is None and {k for _, k in loads} != set(range(1, chains + 1)):
+                raise Refused(5, at)
+            if body[0] in seen:
+                raise Refused(6, at + 1)
+            first = at if first is None else first
+            seen.add(body[0])
+            stack.append(body[0])
+        elif kind == 5:
+            if len(stack) < 2:
+                raise Refused(7, at)
+            right = stack.pop()
+            stack.append((stack.pop(), right))
+        else:
+            if len(stack) != 1 or len(seen) != centres:
+                raise Refused(8, at)
+            if at + 1 < len(file):
+                raise Refused(9, at + 1)
+            return dict(centres=centres, chains=chains, windows=windows, loads=loads, tree=stack[0])
+        at += 1 + lengths[kind]
+
+
+def lowered(model, lower):
+    windows = list(model['windows'])
+    if lower > model['chains']:
+        raise Refused(10, 0)
+    if lower:
+        if windows[lower - 1] == 0:
+            raise Refused(11, 0)
+        windows[lower - 1] -= 1
+    return windows
+
+
+def under(tree):
+    return {tree} if isinstance(tree, int) else under(tree[0]) | under(tree[1])
+
+
+def coverage(model, tree):
+    inside, found = under(tree), []
+    for k in range(1, model['chains'] + 1):
+        route = {c for c, j in model['loads'] if j == k}
+        found.append('finished' if route <= inside else 'absent' if not route & inside else 'partial')
+    return found
+
+
+def index_values(cover, windows):
+    return [range(n + 1) if c == 'partial' else [n] if c == 'finished' else [0] for c, n in zip(cover, windows)]
+
+
+def nodes(tree):
+    return [tree] if isinstance(tree, int) else nodes(tree[0]) + nodes(tree[1]) + [tree]
+
+
+def cells(model, windows):
+    return sum(prod(len(v) for v in index_values(coverage(model, t), windows)) for t in nodes(model['tree']))
+
+
+def pairs(model, windows):
+    total = 0
+    for t in nodes(model['tree']):
+        if isinstance(t, int):
+            continue
+        many = 1
+        for l, r, j, n in zip(coverage(model, t[0]), coverage(model, t[1]), coverage(model, t), windows):
+            if l == r == 'partial':
+                many *= (n + 1) * (n + 2) // 2 if j == 'partial' else n + 1
+            elif 'partial' in (l, r):
+                many *= n + 1
+        total += many
+    return total
+
+
+def weight(model, centre, ns):
+    value = factorial(sum(ns)) // prod(factorial(n) for n in ns)
+    for k, n in enumerate(ns, 1):
+        value *= model['loads'].get((centre, k), 0) ** n
+    return value
+
+
+def value(model, windows):
+    """The sum over all states, chain after chain placed on its centres; no coverage, tree or pair."""
+    def placings(total, places):
+        if places == 1:
+            return [(total,)]
+        return [(first,) + rest for first in range(total + 1) for rest in placings(total - first, places - 1)]
+    routes = [sorted(c for c, j in model['loads'] if j == k) for k in range(1, model['chains'] + 1)]
+    total = 0
+    for state in product(*[placings(n, len(route)) for n, route in zip(windows, routes)]):
+        at = {c: [0] * model['chains'] for c in range(1, model['centres'] + 1)}
+        for k, (route, numbers) in enumerate(zip(routes, state)):
+            for c, n in zip(route, numbers):
+                at[c][k] = n
+        total += prod(weight(model, c, at[c]) for c in at)
+    return total
+
+
+def plan(file, lower):
+    try:
+        model = read(file)
+        windows = lowered(model, lower)
+    except Refused as r:
+        return [r.number, r.place, 0, 0]
+    return [0, 0, cells(model, windows), pairs(model, windows)]
+
+
+def sheet(file, room=8192):
+    try:
+        model = read(file)
+    except Refused as r:
+        return [f'refused {r.number} at {r.place}']
+    windows = model['windows']
+    if cells(model, windows) > min(8192, room):
+        return ['refused 12 at 0']
+    full = value(model, windows)
+    if full >= LIMIT:
+        return ['refused 14 at 0']
+    lines = [f'value {full}', f'pairs {pairs(model, windows)} cells {cells(model, windows)}']
+    for k in range(1, model['chains'] + 1):
+        part = value(model, lowered(model, k)) if windows[k - 1] else 0
+        lines.append(f'chain {k} {part}/{full}')
+    sums = [sum(l for (c, _), l in model['loads'].items() if c == centre) for centre in range(1, model['centres'] + 1)]
+    lines.append(f'busiest {sums.index(max(sums)) + 1}')
+    return lines
+
+
+if __name__ == '__main__':
+    if sys.argv[1:2] == ['sheet']:
+        print('\n'.join(sheet(open(sys.argv[2], 'rb').read())))
+    elif sys.argv[1:2] == ['plan']:
+        print(*plan(open(sys.argv[3], 'rb').read(), int(sys.argv[2])))
+    else:
+        sys.exit(__doc__)
