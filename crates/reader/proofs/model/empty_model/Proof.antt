@@ -1,0 +1,14 @@
+use mathlib.Core.Path.{refl}
+use Rattle.modelfile.specs.Model.{emptyModel}
+use Rattle.reader.proofs.model.empty_model.Statement.{statement}
+use Rattle.reader.proofs.model.empty_model.Tie as tie
+use Rattle.reader.proofs.model.empty_model.Reads as reads
+use Rattle.reader.proofs.model.empty_model.Lts as lts
+
+-- src/model.rt:16:1
+returns : tie.Need-returns
+unfolding emptyModel
+returns c = refl
+
+pub empty-model-spec : {M : Type 1} → statement M
+empty-model-spec = tie.close (tie.spec returns)

@@ -1,0 +1,22 @@
+use borrow.Author.Tests.{eq-eqb, ne-eqb}
+use borrow.Author.Needs.{needs}
+use Rattle.reader.proofs.model.first_leaf_fails.Statement.{statement}
+use Rattle.reader.proofs.model.first_leaf_fails.Tie as tie
+use Rattle.reader.proofs.model.first_leaf_fails.Reads as reads
+use Rattle.reader.proofs.model.first_leaf_fails.Lts as lts
+use Rattle.reader.proofs.model.chain_without_centre.Reads as chain-without-centre-reads
+
+-- src/model.rt:139:9
+chain-without-centre-requires : tie.Need-chain-without-centre-requires
+chain-without-centre-requires c κs = search needs
+
+-- src/model.rt:139:9
+returns : tie.Need-returns
+returns c = rw (eq-eqb _ _ (c .before .if1 .taken)) (c .chain-without-centre .ensures)
+
+-- src/model.rt:134:1
+returns-2 : tie.Need-returns-2
+returns-2 c = rw (ne-eqb _ _ (c .if1 .left))
+
+pub first-leaf-fails-spec : {M : Type 1} → statement M
+first-leaf-fails-spec = tie.close (tie.spec chain-without-centre-requires returns returns-2)
