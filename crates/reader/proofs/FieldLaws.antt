@@ -1,12 +1,12 @@
 -- The records with fields before the tree, kinds 1 to 3: what their definitions say at each `return` of the code, in plain values.
 -- Each law rewrites by the tests that led to that `return`.
-use Prim.Native.Nat.{ℕ, _+_, _-_, _*_, _<_, _≤_}
-use mathlib.Core.Path.{_≡_, refl, sym}
+use Prim.Native.Nat.{ℕ, _+_, _-_, _<_, _≤_}
+use mathlib.Core.Path.{_≡_}
 use mathlib.Core.Bool.{Bool, true, false}
 use mathlib.Core.List.{List}
 use lib.ListN.{getD}
 use borrow.Author.Tests.{lt-ltb, le-ltb, eq-eqb, ne-eqb}
-use Rattle.modelfile.specs.Ends.{outside}
+use Rattle.modelfile.specs.Ends.{lastCentre, lastChain, largestWindow, largestLoad, outside}
 use Rattle.modelfile.specs.Model.{withSize, withWindow, slot, withLoad}
 use Rattle.modelfile.specs.Records.{more, refuse, loadIn, readSize, readWindow, readLoad}
 use Rattle.modelfile.specs.declared.Model.{Model}
@@ -20,12 +20,12 @@ use Rattle.reader.proofs.NumberLaws.{centre-out, centre-in, centre-is, 
 
 module _ (rest : List ℕ) (at : ℕ) (m : Model) {r : Stepped} where
   -- kind 1
-  module _ {x : CentreOr} (e : x ≡ centreOf (getD rest 1 0) 16) where
+  module _ {x : CentreOr} (e : x ≡ centreOf (getD rest 1 0) lastCentre) where
     pub size-centre : x ≡ CentreOr.NoCentre → r ≡ refuse 3 (at + 1) m → r ≡ readSize rest at m
     unfolding readSize
     size-centre f w = rw (centre-out _ _ e f) w
 
-    module _ {c : Centre} (f : x ≡ CentreOr.IsCentre c) {y : ChainOr} (g : y ≡ chainOf (getD rest 2 0) 8) where
+    module _ {c : Centre} (f : x ≡ CentreOr.IsCentre c) {y : ChainOr} (g : y ≡ chainOf (getD rest 2 0) lastChain) where
       pub size-chain : y ≡ ChainOr.NoChain → r ≡ refuse 3 (at + 2) m → r ≡ readSize rest at m
       unfolding readSize
       size-chain h w = rw (centre-in _ _ e f, chain-out _ _ g h) w
@@ -40,7 +40,7 @@ module _ (rest : List ℕ) (at : ℕ) (m : Model) {r : Stepped} where
     unfolding readWindow
     window-chain f w = rw (← e, ne-eqb _ _ f) w
 
-    module _ (f : a ≡ m .given + 1) {b : ℕ} (g : b ≡ getD rest 2 0) {u : Bool} (o : u ≡ outside 0 15 b) where
+    module _ (f : a ≡ m .given + 1) {b : ℕ} (g : b ≡ getD rest 2 0) {u : Bool} (o : u ≡ outside 0 largestWindow b) where
       pub window-out : u ≡ true → r ≡ refuse 3 (at + 2) m → r ≡ readWindow rest at m
       unfolding readWindow
       window-out h w = rw (← e, eq-eqb _ _ f, ← g, ← o, h) w
@@ -60,7 +60,7 @@ module _ (rest : List ℕ) (at : ℕ) (m : Model) {r : Stepped} where
       unfolding readLoad
       load-chain h w = rw (centre-in _ _ e f, chain-out _ _ g h) w
 
-      module _ {k : Chain} (h : y ≡ ChainOr.IsChain k) {l : ℕ} (i : l ≡ loadIn rest) {u : Bool} (o : u ≡ outside 1 65535 l) where
+      module _ {k : Chain} (h : y ≡ ChainOr.IsChain k) {l : ℕ} (i : l ≡ loadIn rest) {u : Bool} (o : u ≡ outside 1 largestLoad l) where
         pub load-out : u ≡ true → r ≡ refuse 3 (at + 3) m → r ≡ readLoad rest at m
         unfolding readLoad
         load-out j w = rw (centre-in _ _ e f, chain-in _ _ g h, ← i, ← o, j) w

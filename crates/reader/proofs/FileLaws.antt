@@ -78,7 +78,10 @@ module _ (file : List ℕ) (at : ℕ) {m : Model} (v : Reached file at m) where
     pub reached-refused : (number place : ℕ) → r .step ≡ Step.Refused number place → refused number place (r .model) ≡ readFile file
     reached-refused number place f = ap (λ s. onward s (r .model) (after (bodyLength (getD file at 0)))) (sym f) ∙ turn
 
-    module _ (f : r .step ≡ Step.More) {b : ℕ} (g : b ≡ bodyLength (getD file at 0)) where
+    module _ (f : r .step ≡ Step.More) {kind b : ℕ} (i : kind ≡ getD file at 0) (j : b ≡ bodyLength kind) where
+      g : b ≡ bodyLength (getD file at 0)
+      g = j ∙ ap bodyLength i
+
       next-inside : at + (1 + b) ≤ length file
       next-inside =
           let w = record-whole (drop at file) at m (ap (λ (p : Stepped). p .step) (sym e) ∙ f) in
@@ -91,9 +94,9 @@ module _ (file : List ℕ) (at : ℕ) {m : Model} (v : Reached file at m) where
       next-reads =
           let k : suc at + b ≡ at + (1 + b) = omega arith in
           let l : drop b (drop (suc at) file) ≡ drop (at + (1 + b)) file = drop-drop b (suc at) file ∙ ap (λ n. drop n file) k in
-          let j : after b ≡ readFile file = ap after g ∙ ap (λ s. onward s (r .model) (after (bodyLength (getD file at 0)))) (sym f) ∙ turn in
+          let t : after b ≡ readFile file = ap after g ∙ ap (λ s. onward s (r .model) (after (bodyLength (getD file at 0)))) (sym f) ∙ turn in
           let o = skipped b (drop (suc at) file) (suc at) (r .model) (let p = next-inside in omega (arith, length-drop (suc at) file)) in
-          sym (ap (λ xs. readFrom xs 0 (suc at + b) (r .model)) l ∙ ap (λ n. readFrom (drop (at + (1 + b)) file) 0 n (r .model)) k) ∙ sym o ∙ j
+          sym (ap (λ xs. readFrom xs 0 (suc at + b) (r .model)) l ∙ ap (λ n. readFrom (drop (at + (1 + b)) file) 0 n (r .model)) k) ∙ sym o ∙ t
 
       pub reached-next : Reached file (at + (1 + b)) (r .model)
       reached-next = record { inside = next-inside; sound = subst (λ (p : Stepped). Sound (p .model)) (sym e) (sound-record (drop at file) at m (v .sound)); reads = next-reads }

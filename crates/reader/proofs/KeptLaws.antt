@@ -1,15 +1,15 @@
 -- A property of the model that each addition keeps, under the tests that let it through, is kept by every record: a refusal and the
 -- end leave the model as it is. Two such properties: the model is sound, and the first leaf's place is not past the record's.
-use Prim.Native.Nat.{ℕ, zero, suc, _+_, _-_, _*_, _<_, _≤_}
-use mathlib.Core.Path.{_≡_, refl, sym, ap, _∙_}
+use Prim.Native.Nat.{ℕ, _+_, _-_, _≤_}
+use mathlib.Core.Path.{_≡_, refl, _∙_}
 use mathlib.Core.Bool.{Bool, true, false, not, _&&_, _||_}
-use mathlib.Core.List.{List, [], _∷_}
+use mathlib.Core.List.{List}
 use native.Mathlib.Omega.{arith}
 use lib.Dec.{ltb, leb, eqb}
-use lib.ListN.{length, getD, set, length-set}
+use lib.ListN.{length, getD, length-set}
 use borrow.Author.Tests.{ltb-false, eqb-true, not-false}
 use Rattle.sums.specs.Lists.{some}
-use Rattle.modelfile.specs.Ends.{outside}
+use Rattle.modelfile.specs.Ends.{lastCentre, lastChain, largestWindow, largestLoad, outside}
 use Rattle.modelfile.specs.Model.{emptyModel, withSize, withWindow, slot, withLoad, firstPlace, withLeaf, withJoin}
 use Rattle.modelfile.specs.Records.{refuse, pick, loadIn, chainWithoutCentre, centreMissing, bodyLength, due, readSize, readWindow, readLoad, readLeaf, readJoin, readEnd, readBody, readRecord}
 use Rattle.modelfile.specs.declared.Model.{Model}
@@ -22,7 +22,7 @@ module _ (P : Model → Type 0) (m : Model) where
   -- what has to be shown of P
   pub record Keeps (at : ℕ) : Type 0 where
     pub same : P m
-    pub size : (c k : ℕ) → outside 1 16 c ≡ false → outside 1 8 k ≡ false → P (withSize m c k)
+    pub size : (c k : ℕ) → outside 1 lastCentre c ≡ false → outside 1 lastChain k ≡ false → P (withSize m c k)
     pub window : (n : ℕ) → P (withWindow m n)
     pub load : (c k l : ℕ) → P (withLoad m c k l)
     pub leaf : (c : ℕ) → outside 1 (m .centres) c ≡ false → getD (m .placed) (c - 1) 0 ≡ 0 → P (withLeaf m at c)
@@ -43,11 +43,11 @@ module _ (P : Model → Type 0) (m : Model) where
     has-body : (kind : ℕ) → Has (readBody kind rest at m)
     unfolding readBody readSize readWindow readLoad readLeaf readJoin readEnd
     has-body kind =
-        either (eqb kind 1) (stop (outside 1 16 (getD rest 1 0)) 3 (at + 1) λ e. stop (outside 1 8 (getD rest 2 0)) 3 (at + 2) λ f. record { has = keeps .size _ _ e f })
-        (either (eqb kind 2) (stop (not (eqb (getD rest 1 0) (m .given + 1))) 3 (at + 1) λ e. stop (outside 0 15 (getD rest 2 0)) 3 (at + 2) λ f. record { has = keeps .window _ })
+        either (eqb kind 1) (stop (outside 1 lastCentre (getD rest 1 0)) 3 (at + 1) λ e. stop (outside 1 lastChain (getD rest 2 0)) 3 (at + 2) λ f. record { has = keeps .size _ _ e f })
+        (either (eqb kind 2) (stop (not (eqb (getD rest 1 0) (m .given + 1))) 3 (at + 1) λ e. stop (outside 0 largestWindow (getD rest 2 0)) 3 (at + 2) λ f. record { has = keeps .window _ })
         (either (eqb kind 3)
         (stop (outside 1 (m .centres) (getD rest 1 0)) 3 (at + 1) λ e. stop (outside 1 (m .chains) (getD rest 2 0)) 3 (at + 2) λ f.
-        stop (outside 1 65535 (loadIn rest)) 3 (at + 3) λ g. stop (ltb (slot (getD rest 1 0) (getD rest 2 0)) (m .passed)) 4 at λ h. record { has = keeps .load _ _ _ })
+        stop (outside 1 largestLoad (loadIn rest)) 3 (at + 3) λ g. stop (ltb (slot (getD rest 1 0) (getD rest 2 0)) (m .passed)) 4 at λ h. record { has = keeps .load _ _ _ })
         (either (eqb kind 4)
         (stop (outside 1 (m .centres) (getD rest 1 0)) 3 (at + 1) λ e. stop (eqb (m .count) 0 && chainWithoutCentre m) 5 at λ f.
         stop (not (eqb (getD (m .placed) (getD rest 1 0 - 1) 0) 0)) 6 (at + 1) λ g. record { has = keeps .leaf _ e (eqb-true _ _ (not-false _ g)) })

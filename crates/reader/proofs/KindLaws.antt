@@ -1,6 +1,6 @@
 -- One record of any kind: what `readRecord` says at each `return` of the code, by the tests of kind and completeness that led there.
 use Prim.Native.Nat.{ℕ, _+_, _<_, _≤_}
-use mathlib.Core.Path.{_≡_, refl, sym, ap}
+use mathlib.Core.Path.{_≡_, refl, ap, _∙_}
 use mathlib.Core.Bool.{Bool, true, false, not}
 use mathlib.Core.List.{List}
 use native.Mathlib.Omega.{arith}
@@ -14,9 +14,27 @@ use Rattle.modelfile.specs.declared.Stepped.{Stepped}
 use Rattle.reader.specs.Sound.{Holds}
 
 -- the bytes of a record that is there
-pub holds : (n kind : ℕ) {rest : List ℕ} {at b : ℕ} → Holds 1 rest at → b ≡ bodyLength kind → b < length rest → bodyLength kind + 1 ≡ n → Holds n rest at
-holds n kind h f l e = record { whole = omega arith; fits = h .fits }
+module _ {rest : List ℕ} {at b kind : ℕ} (h : Holds 1 rest at) (f : b ≡ bodyLength kind) (l : b < length rest) where
+  holds : (k n : ℕ) → kind ≡ k → bodyLength k + 1 ≡ n → Holds n rest at
+  holds k n e g = let d = f ∙ ap bodyLength e in record { whole = omega arith; fits = h .fits }
 
+  pub holds-size : kind ≡ 1 → Holds 3 rest at
+  unfolding bodyLength
+  holds-size e = holds 1 3 e refl
+
+  pub holds-window : kind ≡ 2 → Holds 3 rest at
+  unfolding bodyLength
+  holds-window e = holds 2 3 e refl
+
+  pub holds-load : kind ≡ 3 → Holds 5 rest at
+  unfolding bodyLength
+  holds-load e = holds 3 5 e refl
+
+  pub holds-leaf : kind ≡ 4 → Holds 2 rest at
+  unfolding bodyLength
+  holds-leaf e = holds 4 2 e refl
+
+-- the kind is due; its bytes are there; and then the kinds in turn
 module _ (rest : List ℕ) (at : ℕ) (m : Model) {r : Stepped} {kind : ℕ} (e : kind ≡ getD rest 0 0) {u : Bool} (d : u ≡ some (eqb kind) (due m)) where
   pub kind-not-due : not u ≡ true → r ≡ refuse 2 at m → r ≡ readRecord rest at m
   unfolding readRecord

@@ -1,12 +1,14 @@
--- A number that is taken lies between its ends and is the byte; one that is not taken is outside.
+-- A number that is taken lies between its ends and is the byte; one that is not taken is outside. Both kinds of number are a choice
+-- by one test, so the two laws are shown of any choice first.
 use Prim.Native.Nat.{ℕ, _≤_, _<_}
 use mathlib.Core.Path.{_≡_, refl, sym, ap, _∙_}
 use mathlib.Core.Bool.{Bool, true, false, _||_, true≢false}
 use native.Mathlib.Omega.{arith}
 use lib.Dec.{ltb}
 use borrow.Author.Tests.{ltb-false, lt-ltb, le-ltb}
-use Rattle.modelfile.specs.Ends.{outside}
-use Rattle.reader.specs.Numbers.{centreUnless, centreOf, chainUnless, chainOf}
+use Rattle.sums.specs.Choice.{choose}
+use Rattle.modelfile.specs.Ends.{lastCentre, lastChain, outside}
+use Rattle.reader.specs.Numbers.{centreOf, chainOf}
 use Rattle.reader.specs.Sound.{Within}
 use Rattle.reader.specs.declared.numbers.Centre.{Centre}
 use Rattle.reader.specs.declared.numbers.CentreOr.{CentreOr}
@@ -33,63 +35,55 @@ module _ (first last n : ℕ) where
       by false true p q d = absurd (true≢false d)
       by false false p q d = (ltb-false _ _ p, ltb-false _ _ q)
 
-pub within : (last n most : ℕ) → outside 1 last n ≡ false → last ≤ most → Within most n
-within last n most e h = let r = inside 1 last n e in record { low = r .0; high = omega arith }
+-- ---- a choice between two that differ shows its test
+
+module _ {A : Type 0} where
+  chose-one : (b : Bool) (one two : A) → (two ≡ one → ⊥) → choose b (λ u. one) (λ u. two) ≡ one → b ≡ true
+  chose-one true one two n e = refl
+  chose-one false one two n e = absurd (n e)
+
+  chose-two : (b : Bool) (one two x : A) → (one ≡ x → ⊥) → choose b (λ u. one) (λ u. two) ≡ x → (b ≡ false) × (two ≡ x)
+  chose-two true one two x n e = absurd (n e)
+  chose-two false one two x n e = (refl, e)
 
 -- ---- centre numbers
 
 module _ (n last : ℕ) {x : CentreOr} (e : x ≡ centreOf n last) where
   pub centre-out : x ≡ CentreOr.NoCentre → outside 1 last n ≡ true
   unfolding centreOf
-  centre-out f = by (outside 1 last n) refl (sym e ∙ f)
-    where
-      by : (b : Bool) → outside 1 last n ≡ b → centreUnless b n ≡ CentreOr.NoCentre → outside 1 last n ≡ true
-      by true p d = p
-      by false p d = let z : _≡_ {A = ℕ} 0 1 = cc in absurd (omega arith)
+  centre-out f = chose-one _ _ _ (λ d. let z : _≡_ {A = ℕ} 0 1 = cc in omega arith) (sym e ∙ f)
 
   module _ {c : Centre} (f : x ≡ CentreOr.IsCentre c) where
-    centre-both : (outside 1 last n ≡ false) × (n ≡ c .n)
+    taken : (outside 1 last n ≡ false) × (CentreOr.IsCentre (record { n = n }) ≡ CentreOr.IsCentre c)
     unfolding centreOf
-    centre-both = by (outside 1 last n) refl (sym e ∙ f)
-      where
-        by : (b : Bool) → outside 1 last n ≡ b → centreUnless b n ≡ CentreOr.IsCentre c → (outside 1 last n ≡ false) × (n ≡ c .n)
-        by true p d = let z : _≡_ {A = ℕ} 0 1 = cc in absurd (omega arith)
-        by false p d = let w : record { n = n } ≡ c = cc in (p, ap (λ (k : Centre). k .n) w)
+    taken = chose-two _ _ _ _ (λ d. let z : _≡_ {A = ℕ} 0 1 = cc in omega arith) (sym e ∙ f)
 
     pub centre-in : outside 1 last n ≡ false
-    centre-in = centre-both .0
+    centre-in = taken .0
 
     pub centre-is : n ≡ c .n
-    centre-is = centre-both .1
+    centre-is = let t = taken .1 in let w : record { n = n } ≡ c = cc in ap (λ (k : Centre). k .n) w
 
-    pub centre-within : (most : ℕ) → last ≤ most → Within most (c .n)
-    centre-within most h = rw centre-is at (within last n most centre-in h)
+    pub centre-within : last ≤ lastCentre → Within lastCentre (c .n)
+    centre-within h = let i = inside 1 last n centre-in in let d = centre-is in record { low = omega arith; high = omega arith }
 
 -- ---- chain numbers
 
 module _ (n last : ℕ) {x : ChainOr} (e : x ≡ chainOf n last) where
   pub chain-out : x ≡ ChainOr.NoChain → outside 1 last n ≡ true
   unfolding chainOf
-  chain-out f = by (outside 1 last n) refl (sym e ∙ f)
-    where
-      by : (b : Bool) → outside 1 last n ≡ b → chainUnless b n ≡ ChainOr.NoChain → outside 1 last n ≡ true
-      by true p d = p
-      by false p d = let z : _≡_ {A = ℕ} 0 1 = cc in absurd (omega arith)
+  chain-out f = chose-one _ _ _ (λ d. let z : _≡_ {A = ℕ} 0 1 = cc in omega arith) (sym e ∙ f)
 
   module _ {c : Chain} (f : x ≡ ChainOr.IsChain c) where
-    chain-both : (outside 1 last n ≡ false) × (n ≡ c .n)
+    met : (outside 1 last n ≡ false) × (ChainOr.IsChain (record { n = n }) ≡ ChainOr.IsChain c)
     unfolding chainOf
-    chain-both = by (outside 1 last n) refl (sym e ∙ f)
-      where
-        by : (b : Bool) → outside 1 last n ≡ b → chainUnless b n ≡ ChainOr.IsChain c → (outside 1 last n ≡ false) × (n ≡ c .n)
-        by true p d = let z : _≡_ {A = ℕ} 0 1 = cc in absurd (omega arith)
-        by false p d = let w : record { n = n } ≡ c = cc in (p, ap (λ (k : Chain). k .n) w)
+    met = chose-two _ _ _ _ (λ d. let z : _≡_ {A = ℕ} 0 1 = cc in omega arith) (sym e ∙ f)
 
     pub chain-in : outside 1 last n ≡ false
-    chain-in = chain-both .0
+    chain-in = met .0
 
     pub chain-is : n ≡ c .n
-    chain-is = chain-both .1
+    chain-is = let t = met .1 in let w : record { n = n } ≡ c = cc in ap (λ (k : Chain). k .n) w
 
-    pub chain-within : (most : ℕ) → last ≤ most → Within most (c .n)
-    chain-within most h = rw chain-is at (within last n most chain-in h)
+    pub chain-within : last ≤ lastChain → Within lastChain (c .n)
+    chain-within h = let i = inside 1 last n chain-in in let d = chain-is in record { low = omega arith; high = omega arith }

@@ -1,15 +1,14 @@
 -- The tree part lies in the file: no record sets the first leaf's place past its own, and the end record stands behind it.
-use Prim.Native.Nat.{ℕ, zero, suc, _+_, _-_, _<_, _≤_}
-use mathlib.Core.Path.{_≡_, refl, sym, ap, subst, _∙_}
+use Prim.Native.Nat.{ℕ, zero, suc, _+_, _-_, _≤_}
+use mathlib.Core.Path.{_≡_, sym, ap, subst, _∙_}
 use mathlib.Core.List.{List, [], _∷_}
 use native.Mathlib.Omega.{arith}
 use lib.ListN.{length, take, drop}
 use Rattle.modelfile.specs.Model.{emptyModel}
 use Rattle.modelfile.specs.Records.{bodyLength, readRecord}
-use Rattle.modelfile.specs.File.{onward, readFrom, readFile, partIf, treePart}
+use Rattle.modelfile.specs.File.{onward, readFrom, readFile, treePart}
 use Rattle.modelfile.specs.declared.Model.{Model}
 use Rattle.modelfile.specs.declared.Step.{Step}
-use Rattle.modelfile.specs.declared.Stepped.{Stepped}
 use Rattle.modelfile.specs.declared.Verdict.{Verdict}
 use Rattle.modelfile.specs.declared.Reading.{Reading}
 use Rattle.reader.proofs.KeptLaws.{first-record}

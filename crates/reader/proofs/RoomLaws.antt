@@ -1,12 +1,13 @@
 -- Room for one node more: no centre stands in the tree twice, so there are at most 16 leaves, and never more than 31 nodes.
-use Prim.Native.Nat.{ℕ, zero, suc, _+_, _-_, _*_, _<_, _≤_}
+use Prim.Native.Nat.{ℕ, zero, suc, _-_, _<_, _≤_}
 use mathlib.Core.Path.{_≡_, refl, sym, ap, _∙_}
-use mathlib.Core.Bool.{Bool, true, false, not}
+use mathlib.Core.Bool.{Bool, false, not}
 use mathlib.Core.List.{List, [], _∷_}
 use native.Mathlib.Omega.{arith}
 use lib.Dec.{eqb}
 use lib.ListN.{length, getD, set}
 use borrow.Author.Tests.{eqb-true, not-false}
+use Rattle.modelfile.specs.Ends.{lastCentre}
 use Rattle.modelfile.specs.declared.Model.{Model}
 use Rattle.reader.specs.Sound.{Within, Sound, onCount}
 
@@ -32,10 +33,12 @@ on-set (suc n ∷ ns) zero h e = absurd (omega arith)
 on-set (zero ∷ ns) (suc i) h e = on-set ns i (omega arith) e
 on-set (suc n ∷ ns) (suc i) h e = ap suc (on-set ns i (omega arith) e)
 
-pub leaf-room : (m : Model) (c : ℕ) {again : Bool} → Sound m → Within 16 c → again ≡ not (eqb (getD (m .placed) (c - 1) 0) 0) → again ≡ false → (m .count < 31) × (m .trees < 31)
-leaf-room m c s w e f =
-    let r = on-room (m .placed) (c - 1) (omega (arith, s .placed-long, w .low, w .high)) (eqb-true _ _ (not-false _ (sym e ∙ f))) in
-    (omega (arith, s .nodes-few, s .placed-long), omega (arith, s .nodes-few, s .placed-long))
+-- what the additions of a leaf and of a join ask
+module _ (m : Model) (s : Sound m) where
+  pub leaf-room : (c : ℕ) {again : Bool} → Within lastCentre c → again ≡ not (eqb (getD (m .placed) (c - 1) 0) 0) → again ≡ false → Within lastCentre c × ((m .count < 31) × (m .trees < 31))
+  leaf-room c w e f =
+      let r = on-room (m .placed) (c - 1) (omega (arith, s .placed-long, w .low, w .high)) (eqb-true _ _ (not-false _ (sym e ∙ f))) in
+      (w, (omega (arith, s .nodes-few, s .placed-long), omega (arith, s .nodes-few, s .placed-long)))
 
-pub join-room : (m : Model) → Sound m → 2 ≤ m .trees → (m .count < 31) × (1 ≤ m .trees)
-join-room m s h = let r = on-all (m .placed) in (omega (arith, s .nodes-few, s .placed-long), omega arith)
+  pub join-room : 2 ≤ m .trees → (m .count < 31) × (1 ≤ m .trees)
+  join-room h = let r = on-all (m .placed) in (omega (arith, s .nodes-few, s .placed-long), omega arith)

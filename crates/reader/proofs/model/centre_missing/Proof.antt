@@ -1,18 +1,15 @@
-use Rattle.reader.proofs.SomeLaws.{some-start}
-use borrow.Author.Needs.{needs}
-use native.Mathlib.Omega.{arith}
+-- `reader::model::centre_missing`. The loop's invariant: a centre missing among those still to come is one missing among all.
+use Prim.Native.Nat.{_-_}
 use mathlib.Core.Path.{_≡_, refl}
-use Prim.Native.Nat.{_-_, _≤_}
 use lib.Dec.{eqb}
 use lib.ListN.{getD}
-use Rattle.sums.specs.Lists.{from, some}
+use borrow.Author.Needs.{needs}
 use borrow.Author.Tests.{eq-eqb, ne-eqb}
-use Rattle.reader.proofs.SomeLaws.{some-hit, some-pass, some-end}
+use Rattle.sums.specs.Lists.{from, some}
 use Rattle.modelfile.specs.Records.{centreMissing}
+use Rattle.reader.proofs.SomeLaws.{some-start, some-hit, some-pass, some-end}
 use Rattle.reader.proofs.model.centre_missing.Statement.{statement}
 use Rattle.reader.proofs.model.centre_missing.Tie as tie
-use Rattle.reader.proofs.model.centre_missing.Reads as reads
-use Rattle.reader.proofs.model.centre_missing.Lts as lts
 
 abbrev Inv-loop : tie.InvT-loop
 Inv-loop m centres c₀ c = (centres ≡ m .centres) × (some (λ i. eqb (getD (m .placed) i 0) 0) (from c (centres - c)) ≡ centreMissing m)
@@ -20,36 +17,28 @@ Inv-loop m centres c₀ c = (centres ≡ m .centres) × (some (λ i. eqb (getD (
 abbrev μ-loop : tie.MeasureT-loop
 μ-loop m centres c₀ c = centres - c
 
--- src/model.rt:157:5
 loop-holds : tie.Need-loop-holds Inv-loop μ-loop
 unfolding centreMissing
 loop-holds c = (refl, some-start _ _)
 
--- src/model.rt:158:12
 mul-if1 : tie.Need-mul-if1 Inv-loop μ-loop
 mul-if1 c = search needs
 
--- src/model.rt:158:12
 element-copy-out-if1 : tie.Need-element-copy-out-if1 Inv-loop μ-loop
 element-copy-out-if1 c = search needs
 
--- src/model.rt:159:13
 returns : tie.Need-returns Inv-loop μ-loop
 returns c = some-hit _ _ _ (c .before .before .before .loop .inv .1) (c .before .before .loop-test .taken) (eq-eqb _ _ (c .if1 .taken))
 
--- src/model.rt:157:9
 add-c : tie.Need-add-c Inv-loop μ-loop
 add-c c = search needs
 
--- src/model.rt:157:5
 loop-less : tie.Need-loop-less Inv-loop μ-loop
 loop-less c = search needs
 
--- src/model.rt:157:5
 loop-again : tie.Need-loop-again Inv-loop μ-loop
 loop-again c = (search needs, some-pass _ _ _ (c .before .before .before .loop .inv .1) (c .before .before .loop-test .taken) (ne-eqb _ _ (c .if1 .left)))
 
--- src/model.rt:152:1
 returns-2 : tie.Need-returns-2 Inv-loop μ-loop
 returns-2 c = some-end _ _ _ (c .before .loop .inv .1) (c .loop-test .left)
 

@@ -1,16 +1,13 @@
-use borrow.Author.Needs.{needs}
-use native.Mathlib.Omega.{arith}
-use mathlib.Core.Path.{_≡_, refl, sym, ap, _∙_}
+-- `reader::model::chain_without_centre`. The loop's invariant: a chain without centre among those still to come is one among all.
+use Prim.Native.Nat.{_-_}
 use mathlib.Core.Bool.{not}
-use Prim.Native.Nat.{_-_, _≤_}
+use mathlib.Core.Path.{_≡_, refl, sym, ap, _∙_}
+use borrow.Author.Needs.{needs}
 use Rattle.sums.specs.Lists.{from, some}
-use Rattle.reader.proofs.SomeLaws.{some-start, some-hit, some-pass, some-end}
 use Rattle.modelfile.specs.Records.{loaded, chainWithoutCentre}
+use Rattle.reader.proofs.SomeLaws.{some-start, some-hit, some-pass, some-end}
 use Rattle.reader.proofs.model.chain_without_centre.Statement.{statement}
 use Rattle.reader.proofs.model.chain_without_centre.Tie as tie
-use Rattle.reader.proofs.model.chain_without_centre.Reads as reads
-use Rattle.reader.proofs.model.chain_without_centre.Lts as lts
-use Rattle.reader.proofs.model.has_centre.Reads as has-centre-reads
 
 abbrev Inv-loop : tie.InvT-loop
 Inv-loop m chains k₀ k = (chains ≡ m .chains) × (some (λ i. not (some (loaded (m .loads) i) (from 0 16))) (from k (chains - k)) ≡ chainWithoutCentre m)
@@ -18,32 +15,25 @@ Inv-loop m chains k₀ k = (chains ≡ m .chains) × (some (λ i. not (some (loa
 abbrev μ-loop : tie.MeasureT-loop
 μ-loop m chains k₀ k = chains - k
 
--- src/model.rt:125:5
 loop-holds : tie.Need-loop-holds Inv-loop μ-loop
 unfolding chainWithoutCentre
 loop-holds c = (refl, some-start _ _)
 
--- src/model.rt:126:13
 has-centre-requires : tie.Need-has-centre-requires Inv-loop μ-loop
 has-centre-requires c κs = search needs
 
--- src/model.rt:127:13
 returns : tie.Need-returns Inv-loop μ-loop
 returns c = some-hit _ _ _ (c .before .before .before .before .before .loop .inv .1) (c .before .before .before .before .loop-test .taken) (ap not (sym (c .before .has-centre .ensures)) ∙ c .if1 .taken)
 
--- src/model.rt:125:9
 add-k : tie.Need-add-k Inv-loop μ-loop
 add-k c = search needs
 
--- src/model.rt:125:5
 loop-less : tie.Need-loop-less Inv-loop μ-loop
 loop-less c = search needs
 
--- src/model.rt:125:5
 loop-again : tie.Need-loop-again Inv-loop μ-loop
 loop-again c = (search needs, some-pass _ _ _ (c .before .before .before .before .before .loop .inv .1) (c .before .before .before .before .loop-test .taken) (ap not (sym (c .before .has-centre .ensures)) ∙ c .if1 .left))
 
--- src/model.rt:120:1
 returns-2 : tie.Need-returns-2 Inv-loop μ-loop
 returns-2 c = some-end _ _ _ (c .before .loop .inv .1) (c .loop-test .left)
 

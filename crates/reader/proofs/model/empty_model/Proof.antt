@@ -1,11 +1,9 @@
+-- `reader::model::empty_model`. The fields as written are those of `emptyModel`.
 use mathlib.Core.Path.{refl}
 use Rattle.modelfile.specs.Model.{emptyModel}
 use Rattle.reader.proofs.model.empty_model.Statement.{statement}
 use Rattle.reader.proofs.model.empty_model.Tie as tie
-use Rattle.reader.proofs.model.empty_model.Reads as reads
-use Rattle.reader.proofs.model.empty_model.Lts as lts
 
--- src/model.rt:16:1
 returns : tie.Need-returns
 unfolding emptyModel
 returns c = refl

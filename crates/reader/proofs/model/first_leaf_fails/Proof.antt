@@ -1,20 +1,15 @@
-use borrow.Author.Tests.{eq-eqb, ne-eqb}
+-- `reader::model::first_leaf_fails`. Where a node stands already, the conjunction is false whatever the chains are.
 use borrow.Author.Needs.{needs}
+use borrow.Author.Tests.{eq-eqb, ne-eqb}
 use Rattle.reader.proofs.model.first_leaf_fails.Statement.{statement}
 use Rattle.reader.proofs.model.first_leaf_fails.Tie as tie
-use Rattle.reader.proofs.model.first_leaf_fails.Reads as reads
-use Rattle.reader.proofs.model.first_leaf_fails.Lts as lts
-use Rattle.reader.proofs.model.chain_without_centre.Reads as chain-without-centre-reads
 
--- src/model.rt:139:9
 chain-without-centre-requires : tie.Need-chain-without-centre-requires
 chain-without-centre-requires c κs = search needs
 
--- src/model.rt:139:9
 returns : tie.Need-returns
 returns c = rw (eq-eqb _ _ (c .before .if1 .taken)) (c .chain-without-centre .ensures)
 
--- src/model.rt:134:1
 returns-2 : tie.Need-returns-2
 returns-2 c = rw (ne-eqb _ _ (c .if1 .left))
 

@@ -1,14 +1,11 @@
+-- `reader::model::first_place`. The choice in `firstPlace` is by the test that the code makes.
 use borrow.Author.Tests.{eq-eqb, ne-eqb}
 use Rattle.reader.proofs.model.first_place.Statement.{statement}
 use Rattle.reader.proofs.model.first_place.Tie as tie
-use Rattle.reader.proofs.model.first_place.Reads as reads
-use Rattle.reader.proofs.model.first_place.Lts as lts
 
--- src/model.rt:76:9
 returns : tie.Need-returns
 returns c = rw (eq-eqb _ _ (c .if1 .taken))
 
--- src/model.rt:72:1
 returns-2 : tie.Need-returns-2
 returns-2 c = rw (ne-eqb _ _ (c .if1 .left))
 

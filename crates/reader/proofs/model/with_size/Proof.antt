@@ -1,11 +1,9 @@
+-- `reader::model::with_size`. The stores to the fields are those of `withSize`.
 use mathlib.Core.Path.{refl}
 use Rattle.modelfile.specs.Model.{withSize}
 use Rattle.reader.proofs.model.with_size.Statement.{statement}
 use Rattle.reader.proofs.model.with_size.Tie as tie
-use Rattle.reader.proofs.model.with_size.Reads as reads
-use Rattle.reader.proofs.model.with_size.Lts as lts
 
--- src/model.rt:34:1
 returns : tie.Need-returns
 unfolding withSize
 returns c = refl
