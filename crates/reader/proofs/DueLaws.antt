@@ -2,7 +2,7 @@
 use Prim.Native.Nat.{ℕ, zero, suc, _<_, _≤_}
 use mathlib.Core.Path.{_≡_, refl, sym, ap, _∙_}
 use mathlib.Core.Bool.{Bool, true, false, not, _||_, true≢false}
-use mathlib.Core.List.{[], _∷_}
+use mathlib.Core.List.{List, [], _∷_}
 use native.Mathlib.Omega.{arith}
 use lib.Dec.{ltb, leb, eqb}
 use lib.ListN.{getD}
@@ -12,7 +12,7 @@ use Rattle.modelfile.specs.Records.{pickKinds, due, bodyLength}
 use Rattle.modelfile.specs.declared.Model.{Model}
 use Rattle.reader.specs.Sound.{Sound}
 
--- one kind, two kinds, and the three of the tree, as tests of numbers
+-- one kind, and the three of the tree, as tests of numbers
 one-kind : (kind k : ℕ) → eqb kind k ≡ some (eqb kind) (k ∷ [])
 unfolding some
 one-kind kind k = by (eqb kind k)
@@ -20,6 +20,10 @@ one-kind kind k = by (eqb kind k)
     by : (b : Bool) → b ≡ (b || false)
     by true = refl
     by false = refl
+
+high-kinds : (kind : ℕ) → 6 < kind → leb kind 6 ≡ some (eqb kind) (4 ∷ 5 ∷ 6 ∷ [])
+unfolding some
+high-kinds kind h = rw (lt-leb _ _ h, ne-eqb kind 4 (λ e. omega arith), ne-eqb kind 5 (λ e. omega arith), ne-eqb kind 6 (λ e. omega arith))
 
 tree-kinds : (kind : ℕ) → 4 ≤ kind → leb kind 6 ≡ some (eqb kind) (4 ∷ 5 ∷ 6 ∷ [])
 unfolding some
@@ -30,7 +34,7 @@ tree-kinds (suc (suc (suc zero))) h = absurd (omega arith)
 tree-kinds (suc (suc (suc (suc zero)))) h = refl
 tree-kinds (suc (suc (suc (suc (suc zero))))) h = refl
 tree-kinds (suc (suc (suc (suc (suc (suc zero)))))) h = refl
-tree-kinds (suc (suc (suc (suc (suc (suc (suc k))))))) h = rw (lt-leb (suc (suc (suc (suc (suc (suc (suc k))))))) 6 (omega arith), ne-eqb (suc (suc (suc (suc (suc (suc (suc k))))))) 4 (λ e. omega arith), ne-eqb (suc (suc (suc (suc (suc (suc (suc k))))))) 5 (λ e. omega arith), ne-eqb (suc (suc (suc (suc (suc (suc (suc k))))))) 6 (λ e. omega arith))
+tree-kinds (suc (suc (suc (suc (suc (suc (suc k))))))) h = high-kinds (suc (suc (suc (suc (suc (suc (suc k))))))) (omega arith)
 
 low-kinds : (kind : ℕ) → kind < 4 → false ≡ some (eqb kind) (4 ∷ 5 ∷ 6 ∷ [])
 unfolding some
@@ -73,7 +77,10 @@ window-missing : (m : Model) → some (eqb 2) (due m) ≡ true → m .given < m 
 unfolding due some
 window-missing m e = by (eqb (m .centres) 0) (ltb (m .given) (m .chains)) (eqb (m .count) 0) refl e
   where
-    by : (a b c : Bool) → ltb (m .given) (m .chains) ≡ b → some (eqb 2) (pickKinds a (1 ∷ []) (pickKinds b (2 ∷ []) (pickKinds c (3 ∷ 4 ∷ []) (4 ∷ 5 ∷ 6 ∷ [])))) ≡ true → m .given < m .chains
+    kinds : Bool → Bool → Bool → List ℕ
+    kinds a b c = pickKinds a (1 ∷ []) (pickKinds b (2 ∷ []) (pickKinds c (3 ∷ 4 ∷ []) (4 ∷ 5 ∷ 6 ∷ [])))
+
+    by : (a b c : Bool) → ltb (m .given) (m .chains) ≡ b → some (eqb 2) (kinds a b c) ≡ true → m .given < m .chains
     by true b c h f = absurd (true≢false (sym f))
     by false true c h f = ltb-true _ _ h
     by false false true h f = absurd (true≢false (sym f))

@@ -42,12 +42,13 @@ part-holds file at h f = rw rest-part (record { whole = omega (arith, length-dro
 
 record-whole : (rest : List ℕ) (at : ℕ) (m : Model) → readRecord rest at m .step ≡ Step.More → bodyLength (getD rest 0 0) < length rest
 unfolding readRecord
-record-whole rest at m = by (not (some (eqb (getD rest 0 0)) (due m))) (leb (length rest) (bodyLength (getD rest 0 0))) refl
+record-whole rest at m = by (not (some (eqb (getD rest 0 0)) (due m))) (leb (length rest) (bodyLength (getD rest 0 0))) _ refl
   where
-    by : (a b : Bool) → leb (length rest) (bodyLength (getD rest 0 0)) ≡ b → pick a (refuse 2 at m) (pick b (refuse 1 (at + length rest) m) (readBody (getD rest 0 0) rest at m)) .step ≡ Step.More → bodyLength (getD rest 0 0) < length rest
-    by true b q e = let z : _≡_ {A = ℕ} 0 1 = cc in absurd (omega arith)
-    by false true q e = let z : _≡_ {A = ℕ} 0 1 = cc in absurd (omega arith)
-    by false false q e = leb-false _ _ q
+    by : (a b : Bool) (on : Stepped) → leb (length rest) (bodyLength (getD rest 0 0)) ≡ b
+        → pick a (refuse 2 at m) (pick b (refuse 1 (at + length rest) m) on) .step ≡ Step.More → bodyLength (getD rest 0 0) < length rest
+    by true b on q e = let z : _≡_ {A = ℕ} 0 1 = cc in absurd (omega arith)
+    by false true on q e = let z : _≡_ {A = ℕ} 0 1 = cc in absurd (omega arith)
+    by false false on q e = leb-false _ _ q
 
 -- ---- one turn
 
@@ -65,12 +66,15 @@ module _ (file : List ℕ) (at : ℕ) {m : Model} (v : Reached file at m) where
     after : ℕ → Reading
     after skip = readFrom (drop (suc at) file) skip (suc at) (r .model)
 
+    on : Stepped → Reading
+    on p = onward (p .step) (p .model) (readFrom (drop (suc at) file) (bodyLength (getD file at 0)) (suc at) (p .model))
+
     turn : onward (r .step) (r .model) (after (bodyLength (getD file at 0))) ≡ readFile file
-    unfolding readFrom after
+    unfolding readFrom after on
     turn =
         let d = drop-cons file at 0 h in
         let q : r ≡ readRecord (getD file at 0 ∷ drop (suc at) file) at m = rw d at e in
-        ap (λ (p : Stepped). onward (p .step) (p .model) (readFrom (drop (suc at) file) (bodyLength (getD file at 0)) (suc at) (p .model))) q ∙ ap (λ xs. readFrom xs 0 at m) (sym d) ∙ v .reads
+        ap on q ∙ ap (λ xs. readFrom xs 0 at m) (sym d) ∙ v .reads
 
     pub reached-last : r .step ≡ Step.Last → record { verdict = Verdict.Accepted; model = r .model } ≡ readFile file
     reached-last f = ap (λ s. onward s (r .model) (after (bodyLength (getD file at 0)))) (sym f) ∙ turn
@@ -99,7 +103,9 @@ module _ (file : List ℕ) (at : ℕ) {m : Model} (v : Reached file at m) where
           sym (ap (λ xs. readFrom xs 0 (suc at + b) (r .model)) l ∙ ap (λ n. readFrom (drop (at + (1 + b)) file) 0 n (r .model)) k) ∙ sym o ∙ t
 
       pub reached-next : Reached file (at + (1 + b)) (r .model)
-      reached-next = record { inside = next-inside; sound = subst (λ (p : Stepped). Sound (p .model)) (sym e) (sound-record (drop at file) at m (v .sound)); reads = next-reads }
+      reached-next =
+          let s = sound-record (drop at file) at m (v .sound) in
+          record { inside = next-inside; sound = subst (λ (p : Stepped). Sound (p .model)) (sym e) s; reads = next-reads }
 
   -- the file's end, met where a record is due
   pub reached-over : length file ≤ at → refused 1 at m ≡ readFile file

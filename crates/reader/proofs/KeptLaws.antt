@@ -11,7 +11,7 @@ use borrow.Author.Tests.{ltb-false, eqb-true, not-false}
 use Rattle.sums.specs.Lists.{some}
 use Rattle.modelfile.specs.Ends.{lastCentre, lastChain, largestWindow, largestLoad, outside}
 use Rattle.modelfile.specs.Model.{emptyModel, withSize, withWindow, slot, withLoad, firstPlace, withLeaf, withJoin}
-use Rattle.modelfile.specs.Records.{refuse, pick, loadIn, chainWithoutCentre, centreMissing, bodyLength, due, readSize, readWindow, readLoad, readLeaf, readJoin, readEnd, readBody, readRecord}
+use Rattle.modelfile.specs.Records.{more, refuse, pick, loadIn, chainWithoutCentre, centreMissing, bodyLength, due, readSize, readWindow, readLoad, readLeaf, readJoin, readEnd, readBody, readRecord}
 use Rattle.modelfile.specs.declared.Model.{Model}
 use Rattle.modelfile.specs.declared.Stepped.{Stepped}
 use Rattle.reader.specs.Sound.{Sound, onCount}
@@ -32,6 +32,9 @@ module _ (P : Model → Type 0) (m : Model) where
     has : P (r .model)
 
   module _ (rest : List ℕ) (at : ℕ) (keeps : Keeps at) where
+    so : {n : Model} → P n → Has (more n)
+    so p = record { has = p }
+
     stop : (b : Bool) (number place : ℕ) {on : Stepped} → (b ≡ false → Has on) → Has (pick b (refuse number place m) on)
     stop true number place f = record { has = keeps .same }
     stop false number place f = f refl
@@ -40,25 +43,58 @@ module _ (P : Model → Type 0) (m : Model) where
     either true f g = f
     either false f g = g
 
+    has-size : Has (readSize rest at m)
+    unfolding readSize
+    has-size =
+        stop (outside 1 lastCentre (getD rest 1 0)) 3 (at + 1) λ e. stop (outside 1 lastChain (getD rest 2 0)) 3 (at + 2) λ f.
+        so (keeps .size _ _ e f)
+
+    has-window : Has (readWindow rest at m)
+    unfolding readWindow
+    has-window =
+        stop (not (eqb (getD rest 1 0) (m .given + 1))) 3 (at + 1) λ e. stop (outside 0 largestWindow (getD rest 2 0)) 3 (at + 2) λ f.
+        so (keeps .window _)
+
+    has-load : Has (readLoad rest at m)
+    unfolding readLoad
+    has-load =
+        stop (outside 1 (m .centres) (getD rest 1 0)) 3 (at + 1) λ e. stop (outside 1 (m .chains) (getD rest 2 0)) 3 (at + 2) λ f.
+        stop (outside 1 largestLoad (loadIn rest)) 3 (at + 3) λ g. stop (ltb (slot (getD rest 1 0) (getD rest 2 0)) (m .passed)) 4 at λ h.
+        so (keeps .load _ _ _)
+
+    has-leaf : Has (readLeaf rest at m)
+    unfolding readLeaf
+    has-leaf =
+        stop (outside 1 (m .centres) (getD rest 1 0)) 3 (at + 1) λ e. stop (eqb (m .count) 0 && chainWithoutCentre m) 5 at λ f.
+        stop (not (eqb (getD (m .placed) (getD rest 1 0 - 1) 0) 0)) 6 (at + 1) λ g.
+        so (keeps .leaf _ e (eqb-true _ _ (not-false _ g)))
+
+    has-join : Has (readJoin rest at m)
+    unfolding readJoin
+    has-join = stop (ltb (m .trees) 2) 7 at λ e. so (keeps .join (ltb-false _ _ e))
+
+    has-end : Has (readEnd rest at m)
+    unfolding readEnd
+    has-end =
+        stop (not (eqb (m .trees) 1) || centreMissing m) 8 at λ e. stop (ltb 1 (length rest)) 9 (at + 1) λ f.
+        record { has = keeps .same }
+
     has-body : (kind : ℕ) → Has (readBody kind rest at m)
-    unfolding readBody readSize readWindow readLoad readLeaf readJoin readEnd
+    unfolding readBody
     has-body kind =
-        either (eqb kind 1) (stop (outside 1 lastCentre (getD rest 1 0)) 3 (at + 1) λ e. stop (outside 1 lastChain (getD rest 2 0)) 3 (at + 2) λ f. record { has = keeps .size _ _ e f })
-        (either (eqb kind 2) (stop (not (eqb (getD rest 1 0) (m .given + 1))) 3 (at + 1) λ e. stop (outside 0 largestWindow (getD rest 2 0)) 3 (at + 2) λ f. record { has = keeps .window _ })
-        (either (eqb kind 3)
-        (stop (outside 1 (m .centres) (getD rest 1 0)) 3 (at + 1) λ e. stop (outside 1 (m .chains) (getD rest 2 0)) 3 (at + 2) λ f.
-        stop (outside 1 largestLoad (loadIn rest)) 3 (at + 3) λ g. stop (ltb (slot (getD rest 1 0) (getD rest 2 0)) (m .passed)) 4 at λ h. record { has = keeps .load _ _ _ })
-        (either (eqb kind 4)
-        (stop (outside 1 (m .centres) (getD rest 1 0)) 3 (at + 1) λ e. stop (eqb (m .count) 0 && chainWithoutCentre m) 5 at λ f.
-        stop (not (eqb (getD (m .placed) (getD rest 1 0 - 1) 0) 0)) 6 (at + 1) λ g. record { has = keeps .leaf _ e (eqb-true _ _ (not-false _ g)) })
-        (either (eqb kind 5) (stop (ltb (m .trees) 2) 7 at λ e. record { has = keeps .join (ltb-false _ _ e) })
-        (stop (not (eqb (m .trees) 1) || centreMissing m) 8 at λ e. stop (ltb 1 (length rest)) 9 (at + 1) λ f. record { has = keeps .same })))))
+        either (eqb kind 1) has-size
+        (either (eqb kind 2) has-window
+        (either (eqb kind 3) has-load
+        (either (eqb kind 4) has-leaf
+        (either (eqb kind 5) has-join
+        has-end))))
 
     has-record : Has (readRecord rest at m)
     unfolding readRecord
     has-record =
         stop (not (some (eqb (getD rest 0 0)) (due m))) 2 at λ e.
-        stop (leb (length rest) (bodyLength (getD rest 0 0))) 1 (at + length rest) λ f. has-body (getD rest 0 0)
+        stop (leb (length rest) (bodyLength (getD rest 0 0))) 1 (at + length rest) λ f.
+        has-body (getD rest 0 0)
 
     pub kept : P (readRecord rest at m .model)
     kept = has-record .has

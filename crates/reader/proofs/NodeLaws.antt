@@ -61,6 +61,7 @@ module _ (rest : List ℕ) (at : ℕ) (m : Model) {r : Stepped} where
     unfolding readEnd
     end-after t l w = rw (eq-eqb _ _ h, ← e, t, lt-ltb _ _ l) w
 
-pub end-last : (rest : List ℕ) (at : ℕ) (m : Model) {u : Bool} → m .trees ≡ 1 → u ≡ centreMissing m → u ≡ false → length rest ≤ 1 → record { step = Step.Last; model = m } ≡ readEnd rest at m
+pub end-last : (rest : List ℕ) (at : ℕ) (m : Model) {u : Bool} → m .trees ≡ 1 → u ≡ centreMissing m → u ≡ false → length rest ≤ 1
+    → record { step = Step.Last; model = m } ≡ readEnd rest at m
 unfolding readEnd
 end-last rest at m h e t l = rw (eq-eqb _ _ h, ← e, t, le-ltb _ _ l)

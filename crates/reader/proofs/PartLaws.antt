@@ -13,18 +13,23 @@ use Rattle.modelfile.specs.declared.Verdict.{Verdict}
 use Rattle.modelfile.specs.declared.Reading.{Reading}
 use Rattle.reader.proofs.KeptLaws.{first-record}
 
-from-first : (xs : List ℕ) (skip at : ℕ) (m : Model) → m .first ≤ at → readFrom xs skip at m .verdict ≡ Verdict.Accepted → readFrom xs skip at m .model .first + 1 ≤ at + length xs
+-- an accepted reading's first leaf stands before the end
+abbrev Before : ℕ → Reading → Type 0
+Before end r = r .verdict ≡ Verdict.Accepted → r .model .first + 1 ≤ end
+
+from-first : (xs : List ℕ) (skip at : ℕ) (m : Model) → m .first ≤ at → Before (at + length xs) (readFrom xs skip at m)
 unfolding readFrom
-from-first [] skip at m h e = let z : _≡_ {A = ℕ} 0 1 = cc in absurd (omega arith)
-from-first (x ∷ xs) (suc skip) at m h e = let r = from-first xs skip (suc at) m (omega arith) e in omega (arith, r)
-from-first (x ∷ xs) zero at m h e =
-    by (readRecord (x ∷ xs) at m .step) (readRecord (x ∷ xs) at m .model) (first-record (x ∷ xs) at m h) (λ n. from-first xs (bodyLength x) (suc at) n) e
+from-first [] skip at m h = λ e. let z : _≡_ {A = ℕ} 0 1 = cc in absurd (omega arith)
+from-first (x ∷ xs) (suc skip) at m h = λ e. let r = from-first xs skip (suc at) m (omega arith) e in omega (arith, r)
+from-first (x ∷ xs) zero at m h =
+    let r = readRecord (x ∷ xs) at m in
+    let f = first-record (x ∷ xs) at m h in
+    by (r .step) (r .model) f _ (from-first xs (bodyLength x) (suc at) (r .model) (omega (arith, f)))
   where
-    by : (v : Step) (n : Model) → n .first ≤ at → ((n : Model) → n .first ≤ suc at → readFrom xs (bodyLength x) (suc at) n .verdict ≡ Verdict.Accepted → readFrom xs (bodyLength x) (suc at) n .model .first + 1 ≤ suc at + length xs)
-        → onward v n (readFrom xs (bodyLength x) (suc at) n) .verdict ≡ Verdict.Accepted → onward v n (readFrom xs (bodyLength x) (suc at) n) .model .first + 1 ≤ at + suc (length xs)
-    by Step.More n g f w = let r = f n (omega arith) w in omega (arith, r)
-    by Step.Last n g f w = omega arith
-    by (Step.Refused number place) n g f w = let z : _≡_ {A = ℕ} 0 1 = cc in absurd (omega arith)
+    by : (v : Step) (n : Model) → n .first ≤ at → (rest : Reading) → Before (suc at + length xs) rest → Before (at + suc (length xs)) (onward v n rest)
+    by Step.More n g rest f = λ e. let r = f e in omega (arith, r)
+    by Step.Last n g rest f = λ e. omega arith
+    by (Step.Refused number place) n g rest f = λ e. let z : _≡_ {A = ℕ} 0 1 = cc in absurd (omega arith)
 
 file-first : (file : List ℕ) → readFile file .verdict ≡ Verdict.Accepted → readFile file .model .first + 1 ≤ length file
 unfolding readFile emptyModel

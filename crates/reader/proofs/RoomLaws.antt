@@ -35,7 +35,8 @@ on-set (suc n ∷ ns) (suc i) h e = ap suc (on-set ns i (omega arith) e)
 
 -- what the additions of a leaf and of a join ask
 module _ (m : Model) (s : Sound m) where
-  pub leaf-room : (c : ℕ) {again : Bool} → Within lastCentre c → again ≡ not (eqb (getD (m .placed) (c - 1) 0) 0) → again ≡ false → Within lastCentre c × ((m .count < 31) × (m .trees < 31))
+  pub leaf-room : (c : ℕ) {again : Bool} → Within lastCentre c → again ≡ not (eqb (getD (m .placed) (c - 1) 0) 0) → again ≡ false
+      → Within lastCentre c × ((m .count < 31) × (m .trees < 31))
   leaf-room c w e f =
       let r = on-room (m .placed) (c - 1) (omega (arith, s .placed-long, w .low, w .high)) (eqb-true _ _ (not-false _ (sym e ∙ f))) in
       (w, (omega (arith, s .nodes-few, s .placed-long), omega (arith, s .nodes-few, s .placed-long)))

@@ -30,7 +30,9 @@ part-read-record-end : tie.Need-part-read-record-end Inv-loop μ-loop
 part-read-record-end c = search needs
 
 read-record-requires : tie.Need-read-record-requires Inv-loop μ-loop
-read-record-requires c κs = (part-holds (c .before .before .before .before .before .args .file .now) (c .before .before .loop .at) (c .before .loop-test .taken) (omega arith), c .before .before .loop .inv .sound)
+read-record-requires c κs =
+    let l = c .before .before in
+    (part-holds (l .before .before .before .args .file .now) (l .loop .at) (c .before .loop-test .taken) (omega arith), l .loop .inv .sound)
 
 enum-told : tie.Need-enum-told Inv-loop μ-loop
 enum-told c = search needs
@@ -51,7 +53,8 @@ add-at-2 : tie.Need-add-at-2 Inv-loop μ-loop
 add-at-2 c =
     let r = c .before .before .before .before .before .before in
     let l = r .before .before .before in
-    let n = reached-next (l .before .before .before .args .file .now) (l .loop .at) (l .loop .inv) (r .before .before .loop-test .taken) (r .read-record .ensures) (c .before .before .before .enum-told .given .1)
+    let n = reached-next (l .before .before .before .args .file .now) (l .loop .at) (l .loop .inv) (r .before .before .loop-test .taken)
+    (r .read-record .ensures) (c .before .before .before .enum-told .given .1)
     (c .before .wide .ensures .0) (c .body-length .ensures .0) in
     omega (arith, n .inside)
 

@@ -23,7 +23,9 @@ has-centre-requires : tie.Need-has-centre-requires Inv-loop μ-loop
 has-centre-requires c κs = search needs
 
 returns : tie.Need-returns Inv-loop μ-loop
-returns c = some-hit _ _ _ (c .before .before .before .before .before .loop .inv .1) (c .before .before .before .before .loop-test .taken) (ap not (sym (c .before .has-centre .ensures)) ∙ c .if1 .taken)
+returns c =
+    let t = c .before .before .before .before in
+    some-hit _ _ _ (t .before .loop .inv .1) (t .loop-test .taken) (ap not (sym (c .before .has-centre .ensures)) ∙ c .if1 .taken)
 
 add-k : tie.Need-add-k Inv-loop μ-loop
 add-k c = search needs
@@ -32,7 +34,9 @@ loop-less : tie.Need-loop-less Inv-loop μ-loop
 loop-less c = search needs
 
 loop-again : tie.Need-loop-again Inv-loop μ-loop
-loop-again c = (search needs, some-pass _ _ _ (c .before .before .before .before .before .loop .inv .1) (c .before .before .before .before .loop-test .taken) (ap not (sym (c .before .has-centre .ensures)) ∙ c .if1 .left))
+loop-again c =
+    let t = c .before .before .before .before in
+    (search needs, some-pass _ _ _ (t .before .loop .inv .1) (t .loop-test .taken) (ap not (sym (c .before .has-centre .ensures)) ∙ c .if1 .left))
 
 returns-2 : tie.Need-returns-2 Inv-loop μ-loop
 returns-2 c = some-end _ _ _ (c .before .loop .inv .1) (c .loop-test .left)
