@@ -24,7 +24,7 @@ from-first (x ∷ xs) (suc skip) at m h = λ e. let r = from-first xs skip (suc 
 from-first (x ∷ xs) zero at m h =
     let r = readRecord (x ∷ xs) at m in
     let f = first-record (x ∷ xs) at m h in
-    by (r .step) (r .model) f _ (from-first xs (bodyLength x) (suc at) (r .model) (omega (arith, f)))
+    by (r .step) (r .model) f (readFrom xs (bodyLength x) (suc at) (r .model)) (from-first xs (bodyLength x) (suc at) (r .model) (omega (arith, f)))
   where
     by : (v : Step) (n : Model) → n .first ≤ at → (rest : Reading) → Before (suc at + length xs) rest → Before (at + suc (length xs)) (onward v n rest)
     by Step.More n g rest f = λ e. let r = f e in omega (arith, r)
