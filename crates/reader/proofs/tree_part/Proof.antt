@@ -1,0 +1,65 @@
+-- `reader::tree_part`. An accepted file's first leaf stands before its last byte, so the part lies in the file.
+use native.Mathlib.Omega.{arith}
+use borrow.Author.Needs.{needs}
+use Rattle.reader.proofs.PartLaws.{first-fits, part-accepted, part-refused}
+use Rattle.reader.proofs.tree_part.Statement.{statement}
+use Rattle.reader.proofs.tree_part.Tie as tie
+
+read-file-requires : tie.Need-read-file-requires
+read-file-requires c κs = search needs
+
+enum-told : tie.Need-enum-told
+enum-told c = search needs
+
+sub-end : tie.Need-sub-end
+sub-end c =
+    let r = c .before .before .before in
+    omega (arith, first-fits (r .before .before .args .file .now) (r .read-file .ensures) (c .before .enum-told .given .1))
+
+sub-result : tie.Need-sub-result
+sub-result c =
+    let r = c .before .before .before in
+    omega (arith, first-fits (r .before .before .args .file .now) (r .read-file .ensures) (c .before .enum-told .given .1))
+
+part-result-start : tie.Need-part-result-start
+part-result-start c =
+    let r = c .before .before .before in
+    omega (arith, first-fits (r .before .before .args .file .now) (r .read-file .ensures) (c .before .enum-told .given .1))
+
+part-result-end : tie.Need-part-result-end
+part-result-end c = search needs
+
+enum-told-2 : tie.Need-enum-told-2
+enum-told-2 c = search needs
+
+sub-result-2 : tie.Need-sub-result-2
+sub-result-2 c = search needs
+
+part-result-start-2 : tie.Need-part-result-start-2
+part-result-start-2 c = search needs
+
+part-result-end-2 : tie.Need-part-result-end-2
+part-result-end-2 c = search needs
+
+returns : tie.Need-returns
+returns c = search part-accepted
+
+returns-2 : tie.Need-returns-2
+returns-2 c = search part-refused
+
+pub tree-part-spec : {M : Type 1} → statement M
+tree-part-spec =
+    tie.close
+    (tie.spec
+    read-file-requires
+    enum-told
+    sub-end
+    sub-result
+    part-result-start
+    part-result-end
+    enum-told-2
+    sub-result-2
+    part-result-start-2
+    part-result-end-2
+    returns
+    returns-2)

@@ -1,0 +1,163 @@
+// The model as far as it is read: with one record more, and what refusals 5, 6 and 8 look at.
+ghost use mathlib.Core.Path.{_≡_};
+ghost use mathlib.Core.Bool.{_&&_, not};
+ghost use Prim.Native.Nat.{_≤_, _<_, _+_, _-_};
+ghost use lib.Dec.{eqb};
+ghost use lib.ListN.{getD};
+ghost use Rattle.sums.specs.Lists.{from, some};
+ghost use Rattle.modelfile.specs.Ends.{lastCentre, lastChain};
+ghost use Rattle.modelfile.specs.Model.{emptyModel, withSize, withWindow, slot, withLoad, firstPlace, withLeaf, withJoin};
+ghost use Rattle.modelfile.specs.Records.{loaded, chainWithoutCentre, centreMissing};
+ghost use Rattle.reader.specs.Sound.{Within};
+use crate::numbers::Centre;
+use crate::numbers::Chain;
+use modelfile::Model;
+
+pub fn empty_model() -> Model
+    ensures { λ r. ⌜ r ≡ emptyModel ⌝ }
+{
+    Model {
+        centres: 0,
+        chains: 0,
+        given: 0,
+        windows: [0usize; 8],
+        passed: 0,
+        loads: [0u64; 128],
+        first: 0,
+        count: 0,
+        nodes: [0usize; 31],
+        trees: 0,
+        placed: [0usize; 16],
+    }
+}
+
+pub fn with_size(m: Model, centres: Centre, chains: Chain) -> Model
+    ensures { λ r. ⌜ r ≡ withSize m (centres .n) (chains .n) ⌝ }
+{
+    let mut next = m;
+    next.centres = centres.n;
+    next.chains = chains.n;
+    next
+}
+
+pub fn with_window(m: Model, window: usize) -> Model
+    requires { ⌜ m .given < 8 ⌝ }
+    ensures { λ r. ⌜ r ≡ withWindow m window ⌝ }
+{
+    let mut next = m;
+    let i = next.given;
+    next.windows[i] = window;
+    next.given = i + 1;
+    next
+}
+
+pub fn slot_of(centre: Centre, chain: Chain) -> usize
+    requires { ⌜ Within lastCentre (centre .n) × Within lastChain (chain .n) ⌝ }
+    ensures { λ r. ⌜ (r ≡ slot (centre .n) (chain .n)) × (r < 128) ⌝ }
+{
+    (centre.n - Centre::FIRST) * Chain::LAST + (chain.n - Chain::FIRST)
+}
+
+pub fn with_load(m: Model, centre: Centre, chain: Chain, load: usize) -> Model
+    requires { ⌜ Within lastCentre (centre .n) × Within lastChain (chain .n) ⌝ }
+    ensures { λ r. ⌜ r ≡ withLoad m (centre .n) (chain .n) load ⌝ }
+{
+    let mut next = m;
+    let i = slot_of(centre, chain);
+    next.loads[i] = load as u64;
+    next.passed = i + 1;
+    next
+}
+
+fn first_place(count: usize, at: usize, first: usize) -> usize
+    ensures { λ r. ⌜ r ≡ firstPlace (eqb count 0) at first ⌝ }
+{
+    if count == 0 {
+        return at;
+    }
+    first
+}
+
+pub fn with_leaf(m: Model, at: usize, centre: Centre) -> Model
+    requires { ⌜ Within lastCentre (centre .n) × ((m .count < 31) × (m .trees < 31)) ⌝ }
+    ensures { λ r. ⌜ r ≡ withLeaf m at (centre .n) ⌝ }
+{
+    let mut next = m;
+    let i = next.count;
+    next.first = first_place(i, at, next.first);
+    next.nodes[i] = centre.n;
+    next.count = i + 1;
+    next.trees = next.trees + 1;
+    next.placed[centre.n - Centre::FIRST] = 1;
+    next
+}
+
+pub fn with_join(m: Model) -> Model
+    requires { ⌜ (m .count < 31) × (1 ≤ m .trees) ⌝ }
+    ensures { λ r. ⌜ r ≡ withJoin m ⌝ }
+{
+    let mut next = m;
+    let i = next.count;
+    next.nodes[i] = 0;
+    next.count = i + 1;
+    next.trees = next.trees - 1;
+    next
+}
+
+// Whether chain k + 1 has a centre.
+fn has_centre(loads: &[u64; 128], k: usize) -> bool
+    requires { ⌜ k < 8 ⌝ }
+    ensures { λ r. ⌜ r ≡ some (loaded (now (loads .entry)) k) (from 0 lastCentre) ⌝ }
+{
+    for c in 0..Centre::LAST {
+        if loads[c * Chain::LAST + k] != 0 {
+            return true;
+        }
+    }
+    false
+}
+
+fn chain_without_centre(m: Model) -> bool
+    requires { ⌜ m .chains ≤ 8 ⌝ }
+    ensures { λ r. ⌜ r ≡ chainWithoutCentre m ⌝ }
+{
+    let chains = m.chains;
+    for k in 0..chains {
+        if !has_centre(&m.loads, k) {
+            return true;
+        }
+    }
+    false
+}
+
+// 5 is looked at where no node stands yet.
+pub fn first_leaf_fails(m: Model) -> bool
+    requires { ⌜ m .chains ≤ 8 ⌝ }
+    ensures { λ r. ⌜ r ≡ (eqb (m .count) 0 && chainWithoutCentre m) ⌝ }
+{
+    if m.count == 0 {
+        return chain_without_centre(m);
+    }
+    false
+}
+
+pub fn is_placed(m: Model, centre: Centre) -> bool
+    requires { ⌜ Within lastCentre (centre .n) ⌝ }
+    ensures { λ r. ⌜ r ≡ not (eqb (getD (m .placed) (centre .n - 1) 0) 0) ⌝ }
+{
+    let i = centre.n - Centre::FIRST;
+    m.placed[i] != 0
+}
+
+pub fn centre_missing(m: Model) -> bool
+    requires { ⌜ m .centres ≤ 16 ⌝ }
+    ensures { λ r. ⌜ r ≡ centreMissing m ⌝ }
+{
+    let centres = m.centres;
+    for c in 0..centres {
+        if m.placed[c] == 0 {
+            return true;
+        }
+    }
+    false
+}
