@@ -13,7 +13,8 @@ use Rattle.network.specs.Coverage.{Coverage, Tree, leaf, join, under, visits, c
 use Rattle.network.specs.Cells.{span, cells, strides, spansAt, base}
 use Rattle.network.specs.Pairs.{factors}
 use Rattle.network.proofs.CoverageLaws.{Parted, coverageByCount, counting, parted-left, parted-right}
-use Rattle.plan.specs.Table.{padded, row, nodesIn, centreAt, countsAt, totalsOf, pairsAt, entry}
+use Rattle.network.proofs.PostorderLaws.{nodesIn}
+use Rattle.plan.specs.Table.{padded, row, centreAt, countsAt, totalsOf, pairsAt, entry}
 use Rattle.plan.specs.Steps.{loadedBy, countBy, added, coversBy, spansBy, factorsBy, shapeBy, pairsBy, nodeLeaf, nodeJoined}
 use Rattle.plan.specs.declared.Chains.{Chains}
 use Rattle.plan.specs.declared.Shape.{Shape}

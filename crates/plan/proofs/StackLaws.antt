@@ -7,9 +7,9 @@ use native.Mathlib.Omega.{arith}
 use lib.ListN.{length, getD, take, drop, length-append, length-drop, take-append-drop}
 use lib.Seq.{take-suc, drop-cons, length-take-le}
 use Rattle.network.specs.Coverage.{Tree, leaf, join, under}
+use Rattle.network.proofs.PostorderLaws.{nodesIn}
 use Rattle.modelfile.specs.Network.{joined, subtrees}
 use Rattle.modelfile.proofs.TreeLaws.{allUnder}
-use Rattle.plan.specs.Table.{nodesIn}
 
 -- what one node makes of the subtrees, the latest first
 pub data Next : List Tree → ℕ → List Tree → Type 0 where
