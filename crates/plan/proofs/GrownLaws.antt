@@ -2,16 +2,16 @@
 -- leaf's loads or from the two latest subtrees' own entries; at the end one tree is left.
 use Prim.Native.Nat.{ℕ, zero, suc, _+_, _-_, _*_, _^_, _≤_, _<_}
 use mathlib.Core.Path.{_≡_, refl, sym, ap, subst, _∙_}
-use mathlib.Core.List.{List, [], _∷_, _++_, map, List·Memᴰ, List·Memᴰ·head, Memᴰ·append-left, List·Permᴰ}
+use mathlib.Core.List.{List, [], _∷_, _++_, map, List·Memᴰ·head, List·Permᴰ}
 use native.Mathlib.Omega.{arith}
 use native.Mathlib.Numerals.{add-one}
-use lib.ListN.{length, getD, set, take, drop, replicate, length-set, length-append}
+use lib.ListN.{length, getD, set, take, drop, length-set}
 use lib.Seq.{getD-take, take-suc-set, take-all, length-take-le}
-use Rattle.sums.specs.Lists.{from, those}
+use Rattle.sums.specs.Lists.{from}
 use Rattle.sums.proofs.ListLaws.{from-out}
 use Rattle.sums.proofs.PermLaws.{perm-in}
 use Rattle.network.specs.Coverage.{Tree, leaf, join, under, visits}
-use Rattle.network.specs.Cells.{cells, spansAt, allCells, base}
+use Rattle.network.specs.Cells.{cells, spansAt, allCells}
 use Rattle.network.specs.Pairs.{allPairs}
 use Rattle.network.proofs.CoverageLaws.{Parted, parted-right}
 use Rattle.network.proofs.PostorderLaws.{nodesIn}

@@ -1,6 +1,6 @@
 -- The plan call, case by case: a file is refused, a chain to lower is, or the table has the cells and the pairs.
 use Prim.Native.Nat.{ℕ}
-use mathlib.Core.Path.{_≡_, refl, sym, ap, subst, _∙_}
+use mathlib.Core.Path.{_≡_, sym, ap, subst, _∙_}
 use mathlib.Core.List.{List}
 use Rattle.modelfile.specs.File.{readFile}
 use Rattle.modelfile.specs.declared.Model.{Model}
@@ -8,7 +8,7 @@ use Rattle.modelfile.specs.declared.Verdict.{Verdict}
 use Rattle.modelfile.specs.declared.Reading.{Reading}
 use Rattle.modelfile.proofs.Guaranteed.{Guaranteed}
 use Rattle.modelfile.proofs.AcceptedLaws.{accepted}
-use Rattle.calls.specs.Asked.{refused, granted, lowering, ask, onVerdict, onGranted, cellsIn, pairsIn}
+use Rattle.calls.specs.Asked.{ask}
 use Rattle.calls.specs.Plan.{plan}
 use Rattle.calls.specs.declared.PlanAnswer.{PlanAnswer}
 use Rattle.plan.specs.Table.{Tabled}

@@ -1,5 +1,6 @@
 // The node table of a model under the windows of a run, and the plan call.
-mod coverage; // coverage.rt: a chain's coverage by counting, and what it makes of cells and pairs
+mod arrays; // arrays.rt: a node's cells and strides
+pub mod coverage; // coverage.rt: a chain's coverage by counting, and what it makes of cells and pairs
 mod nodes; // nodes.rt: one node of the table
 pub mod tables; // tables.rt: the table, node by node
 pub mod windows; // windows.rt: the windows of a run

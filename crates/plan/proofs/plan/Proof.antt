@@ -1,34 +1,25 @@
+-- `plan` meets its contract: an accepted file guarantees what the model's plan asks.
 use mathlib.Core.Path.{_∙_}
 use Rattle.plan.proofs.PlanLaws.{file-guaranteed, file-planned, file-refused}
 use borrow.Author.Needs.{needs}
 use Rattle.plan.proofs.plan.Statement.{statement}
 use Rattle.plan.proofs.plan.Tie as tie
-use Rattle.plan.proofs.plan.Reads as reads
-use Rattle.plan.proofs.plan.Lts as lts
-use Rattle.plan.proofs.plan_model.Reads as plan-model-reads
-use Rattle.reader.proofs.read_file.Reads as read-file-reads
 
--- src/lib.rt:95:9
 read-file-requires : tie.Need-read-file-requires
 read-file-requires c κs = search needs
 
--- src/lib.rt:99:30
 enum-told : tie.Need-enum-told
 enum-told c = search needs
 
--- src/lib.rt:99:30
 plan-model-requires : tie.Need-plan-model-requires
 plan-model-requires c κs = file-guaranteed _ (c .before .before .before .before .before .args .lower) _ (c .before .before .before .read-file .ensures) (c .enum-told .given .1)
 
--- src/lib.rt:100:28
 enum-known-verdict : tie.Need-enum-known-verdict
 enum-known-verdict c = search needs
 
--- src/lib.rt:92:1
 returns : tie.Need-returns
 returns c = c .plan-model .ensures ∙ file-planned _ _ _ (c .before .before .before .before .read-file .ensures) (c .before .enum-told .given .1)
 
--- src/lib.rt:92:1
 returns-2 : tie.Need-returns-2
 returns-2 c = file-refused _ _ _ (c .before .before .before .before .read-file .ensures) (c .before .verdict .given .1)
 

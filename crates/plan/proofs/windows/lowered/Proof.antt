@@ -1,53 +1,41 @@
+-- `windows::lowered` meets its contract, test by test.
 use Prim.Native.Nat.{_-_}
 use Rattle.plan.proofs.LowerLaws.{lower-none, lower-above, lower-empty, lower-less}
 use native.Mathlib.Omega.{arith}
 use borrow.Author.Needs.{needs}
 use Rattle.plan.proofs.windows.lowered.Statement.{statement}
 use Rattle.plan.proofs.windows.lowered.Tie as tie
-use Rattle.plan.proofs.windows.lowered.Reads as reads
-use Rattle.plan.proofs.windows.lowered.Lts as lts
 
--- src/windows.rt:14:9
 returns : tie.Need-returns
 returns c = lower-none _ (c .before .before .pre) _ (c .if1 .taken)
 
--- src/windows.rt:21:9
 returns-2 : tie.Need-returns-2
 returns-2 c = lower-above _ (c .before .before .before .before .pre) _ (c .before .before .before .before .args .lower - 1) (omega (arith, c .before .before .if1 .left)) (c .if2 .taken)
 
--- src/windows.rt:29:26
 sub-window : tie.Need-sub-window
 sub-window c = search needs
 
--- src/windows.rt:29:18
 mul-window : tie.Need-mul-window
 mul-window c = search needs
 
--- src/windows.rt:29:18
 array-read-window : tie.Need-array-read-window
 array-read-window c = search needs
 
--- src/windows.rt:31:9
 returns-3 : tie.Need-returns-3
 returns-3 c = lower-empty _ (c .before .before .before .before .before .pre) _ (c .before .before .before .before .before .args .lower - 1) (omega (arith, c .before .before .before .if1 .left)) (c .before .if2 .left) (c .if3 .taken)
 
--- src/windows.rt:39:22
 sub-windows : tie.Need-sub-windows
 sub-windows c = search needs
 
--- src/windows.rt:39:13
 sub-windows-2 : tie.Need-sub-windows-2
 sub-windows-2 c = search needs
 
--- src/windows.rt:39:5
 mul-windows : tie.Need-mul-windows
 mul-windows c = search needs
 
--- src/windows.rt:39:5
 array-write-windows : tie.Need-array-write-windows
 array-write-windows c = search needs
 
--- src/windows.rt:8:1
 returns-4 : tie.Need-returns-4
 returns-4 c = lower-less _ (c .before .before .before .before .before .pre) _ (c .before .before .before .before .before .args .lower - 1) (omega (arith, c .before .before .before .if1 .left)) (c .before .if2 .left) (c .if3 .left)
 
