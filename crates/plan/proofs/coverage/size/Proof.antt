@@ -1,0 +1,30 @@
+-- `coverage::size` meets its contract, case by case of the coverage.
+use Rattle.plan.proofs.CoveringLaws.{size-finished, size-partial, size-absent}
+use borrow.Author.Needs.{needs}
+use Rattle.plan.proofs.coverage.size.Statement.{statement}
+use Rattle.plan.proofs.coverage.size.Tie as tie
+
+enum-told : tie.Need-enum-told
+enum-told c = search needs
+
+enum-told-2 : tie.Need-enum-told-2
+enum-told-2 c = search needs
+
+add-result : tie.Need-add-result
+add-result c = search needs
+
+enum-told-3 : tie.Need-enum-told-3
+enum-told-3 c = search needs
+
+returns : tie.Need-returns
+returns c = search size-finished
+
+returns-2 : tie.Need-returns-2
+returns-2 c = search size-partial
+
+returns-3 : tie.Need-returns-3
+returns-3 c = search size-absent
+
+pub size-spec : {M : Type 1} → statement M
+size-spec =
+    tie.close (tie.spec enum-told enum-told-2 add-result enum-told-3 returns returns-2 returns-3)
