@@ -1,4 +1,5 @@
 -- `reader::records::read_join`. At each `return` a law of NodeLaws turns the test that led there into the definition's value.
+use native.Mathlib.Omega.{arith}
 use borrow.Author.Needs.{needs}
 use Rattle.modelfile.proofs.SoundLaws.{join-room}
 use Rattle.reader.proofs.NodeLaws.{join-few, join-more}
@@ -9,7 +10,7 @@ stop-requires : tie.Need-stop-requires
 stop-requires c κs = search needs
 
 returns : tie.Need-returns
-returns c = search join-few
+returns c = join-few _ _ _ (omega (arith, c .before .if1 .taken)) (c .stop .ensures)
 
 with-join-requires : tie.Need-with-join-requires
 with-join-requires c κs = search join-room
