@@ -221,6 +221,37 @@ fn b_with_every_byte_changed_put_in_and_cut() {
     Seen::all(&seen.plan, 0..=10);
 }
 
+/// Where several refusals apply to one record, the first in order is told.
+#[test]
+fn many_faults_in_one_record() {
+    let mut chance = Chance::new(10);
+    let mut seen = Seen::default();
+    // B, and B with no centre for chain 2.
+    let bare = [&B[..14], &B[19..24], &B[29..]].concat();
+    for file in [B, &bare] {
+        let mut at = 0;
+        while at < file.len() {
+            let body = [2, 2, 4, 1, 0, 0][file[at] as usize - 1];
+            let telling: &[u8] = if body == 4 { &[0, 1, 2, 3, 255] } else { &[0, 1, 2, 3, 8, 9, 15, 16, 17, 255] };
+            for mut choice in 0..6 * telling.len().pow(body as u32) {
+                let mut other = file.to_vec();
+                other[at] = (choice % 6) as u8 + 1;
+                choice /= 6;
+                for byte in &mut other[at + 1..at + 1 + body] {
+                    *byte = telling[choice % telling.len()];
+                    choice /= telling.len();
+                }
+                if chance.one_in(4) {
+                    other.truncate(at + chance.within(0, body as u64 + 1) as usize);
+                }
+                hold(&mut chance, &other, &mut seen);
+            }
+            at += 1 + body;
+        }
+    }
+    Seen::all(&seen.plan, 0..=8);
+}
+
 #[test]
 fn damaged_models() {
     let mut chance = Chance::new(2);
@@ -381,6 +412,39 @@ fn pairs_are_as_many_as_listed_and_never_above_the_plain_method() {
             }
         }
     }
+}
+
+/// 3 chains between centres 1 and 2, load 1 everywhere.
+fn between(windows: [u8; 3], centres: u8, tree: &[u8]) -> Vec<u8> {
+    let mut file = vec![1, centres, 3];
+    file.extend((1..).zip(windows).flat_map(|(chain, window)| [2, chain, window]));
+    file.extend((1..=2).flat_map(|centre| (1..=3).flat_map(move |chain| [3, centre, chain, 0, 1])));
+    [&file, tree, &[6]].concat()
+}
+
+#[test]
+fn exactly_8192_cells_and_one_more() {
+    let mut chance = Chance::new(11);
+    // 13 * 14 * 15 = 2730 cells at centre 1, at its join with centre 3 and at centre 2; 1 at centre 3 and at the root.
+    let full = between([12, 13, 14], 3, &[4, 1, 4, 3, 5, 4, 2, 5]);
+    assert_eq!(plan(&full, 0), PlanAnswer { cells: 8192, pairs: 2 * 2730, ..Default::default() });
+    for (len, refusal) in [(8191, 12), (8192, 0), (8193, 0)] {
+        assert_eq!(start(&full, 0, &mut contents(&mut chance, len)).refusal, refusal);
+        assert_eq!(advance(&full, 0, 0, 9, &mut vec![1; len + 2 * AROUND]).refusal, refusal);
+        assert_eq!(sheet(&full, &mut contents(&mut chance, len)).refusal, refusal);
+    }
+    // The coefficient of x^12 y^13 z^14 in (1 - x - y - z)^-2.
+    let (choose_39_12, choose_27_13) = (3_910_797_436, 20_058_300);
+    assert_eq!(fenmantle::sheet(&full, &mut [0; fenmantle::ROOM]).unwrap().value, 40 * choose_39_12 * choose_27_13);
+
+    // 16 * 16 * 16 cells at each centre and 1 at the root; in lowered runs fewer.
+    let over = between([15, 15, 15], 2, &[4, 1, 4, 2, 5]);
+    assert_eq!(plan(&over, 0), PlanAnswer { cells: 8193, pairs: 4096, ..Default::default() });
+    for (lower, refusal) in [(0, 12), (1, 0), (2, 0), (3, 0)] {
+        assert_eq!(start(&over, lower, &mut contents(&mut chance, 9000)).refusal, refusal);
+        assert_eq!(advance(&over, lower, 0, 9, &mut vec![1; 9000]).refusal, refusal);
+    }
+    assert_eq!(sheet(&over, &mut contents(&mut chance, 9000)).refusal, 12);
 }
 
 /// 16 centres, all visited by all of 8 chains.
