@@ -127,6 +127,8 @@ static void one_model(const char *path)
     plan = fenmantle_plan(file, file_len, 0);
     if (plan.refusal != 0)
         fail("plan refused");
+    if (plan.pairs == 0)
+        fail("a model of one centre has no pairs to measure");
     pairs = plan.pairs;
     half = pairs / 2;
 

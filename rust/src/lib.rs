@@ -160,8 +160,7 @@ pub fn start(file: &[u8], lower: u64, area: &mut [u64]) -> Result<(), Refusal> {
 /// ```
 pub fn advance(file: &[u8], lower: u64, done: u64, budget: u64, area: &mut [u64]) -> Result<Progress, Stopped> {
     // SAFETY: pointers and lengths are those of slices, which do not overlap.
-    let answer =
-        unsafe { raw::fenmantle_advance(file.as_ptr(), file.len(), lower, done, budget, area.as_mut_ptr(), area.len()) };
+    let answer = unsafe { raw::fenmantle_advance(file.as_ptr(), file.len(), lower, done, budget, area.as_mut_ptr(), area.len()) };
     Refusal::of(answer.refusal, answer.place).map_err(|refusal| Stopped { refusal, done: answer.done })?;
     Ok(Progress { done: answer.done, value: answer.value })
 }

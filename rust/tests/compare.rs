@@ -74,9 +74,7 @@ fn advance(file: &[u8], lower: u64, done: u64, budget: u64, area: &mut [u64]) ->
     same_cells(area, &due, &what, file);
     let safely = match fenmantle::advance(file, lower, done, budget, &mut safe[inner]) {
         Ok(Progress { done, value }) => AdvanceAnswer { refusal: 0, place: 0, done, value },
-        Err(stopped) => {
-            AdvanceAnswer { refusal: stopped.refusal.number(), place: stopped.refusal.place(), done: stopped.done, value: 0 }
-        }
+        Err(stopped) => AdvanceAnswer { refusal: stopped.refusal.number(), place: stopped.refusal.place(), done: stopped.done, value: 0 },
     };
     assert_eq!(told, safely);
     same_cells(&safe, &due, &what, file);
