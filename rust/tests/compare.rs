@@ -254,7 +254,7 @@ fn many_faults_in_one_record() {
 fn damaged_models() {
     let mut chance = Chance::new(2);
     let mut seen = Seen::default();
-    for _ in 0..200 {
+    for _ in 0..400 {
         let file = model_within(&mut chance, 300, 1000);
         for file in damaged(&mut chance, &file) {
             hold(&mut chance, &file, &mut seen);
@@ -278,7 +278,7 @@ fn noise_of_all_lengths() {
 fn valid_models_in_all_areas_with_all_numbers() {
     let mut chance = Chance::new(4);
     let mut seen = Seen::default();
-    for _ in 0..2000 {
+    for _ in 0..5000 {
         let file = model_within(&mut chance, u64::MAX, 20_000);
         for _ in 0..4 {
             hold(&mut chance, &file, &mut seen);
@@ -295,26 +295,30 @@ fn valid_models_in_all_areas_with_all_numbers() {
 fn models_of_many_cells_and_pairs() {
     let mut chance = Chance::new(5);
     let mut seen = Seen::default();
-    let mut held = 0;
-    while held < 24 {
-        let file = model(&mut chance);
+    let (mut held, mut without_room) = (0, 0);
+    while held < 16 || without_room < 16 {
+        let mut file = model(&mut chance);
         let planned = second::plan(&file, 0);
-        if (2000..=8192).contains(&planned.cells) && planned.pairs > 20_000 {
+        if planned.cells > 8192 && without_room < 16 {
+            assert_eq!(start(&file, 0, &mut contents(&mut chance, 20_000)).refusal, 12);
+            assert_eq!(sheet(&file, &mut contents(&mut chance, 20_000)).refusal, 12);
+            without_room += 1;
+        } else if (2000..=8192).contains(&planned.cells) && (20_000..=300_000).contains(&planned.pairs) && held < 16 {
             hold(&mut chance, &file, &mut seen);
+            // With so many messages most values are too large, unless loads are small.
+            inputs::set_loads(&mut file, 1);
+            hold(&mut chance, &file, &mut seen);
+            sheet(&file, &mut contents(&mut chance, 8192));
             held += 1;
-        } else if (8193..=9000).contains(&planned.cells) || chance.one_in(1000) {
-            // Too many cells for any area, though the plan may be large.
-            assert!(planned.cells <= 8192 || start(&file, 0, &mut contents(&mut chance, 20_000)).refusal == 12);
         }
     }
-    assert!(seen.start[0] > 0 && seen.sheet[0] + seen.sheet[14] > 0);
 }
 
 #[test]
 fn budgets_in_slots_come_to_one_budget() {
     let mut chance = Chance::new(6);
     let (mut finished, mut stopped) = (0, 0);
-    while finished < 300 || stopped < 60 {
+    while finished < 400 || stopped < 80 {
         let file = model_within(&mut chance, 2000, 3000);
         let lower = if chance.one_in(2) { 0 } else { chance.within(1, file[2] as u64) };
         let total = plan(&file, lower);
@@ -361,7 +365,7 @@ fn budgets_in_slots_come_to_one_budget() {
 fn values_are_sums_over_states_for_every_tree() {
     let mut chance = Chance::new(7);
     let (mut exact, mut too_large) = (0, 0);
-    while exact < 600 || too_large < 60 {
+    while exact < 2000 || too_large < 200 {
         let file = model_within(&mut chance, 8192, 20_000);
         let model = read(&file).ok().unwrap();
         let Some(value) = model.value_by_states(&model.windows, 3000) else { continue };

@@ -72,6 +72,15 @@ pub fn model(chance: &mut Chance) -> Vec<u8> {
     file
 }
 
+/// Every load of a valid file, set anew.
+pub fn set_loads(file: &mut [u8], load: u16) {
+    let mut at = 3 + 3 * file[2] as usize;
+    while file[at] == 3 {
+        file[at + 3..at + 5].copy_from_slice(&load.to_be_bytes());
+        at += 5;
+    }
+}
+
 /// Leaves in any order, joined anyhow: from one side, as late as possible, or at random.
 pub fn tree(chance: &mut Chance, centres: u8) -> Vec<u8> {
     let mut leaves: Vec<u8> = (1..=centres).collect();

@@ -182,8 +182,9 @@ impl Model {
         let mut states = 1u64;
         for (chain, &window) in windows.iter().enumerate() {
             let route: Vec<u8> = self.route(chain).into_iter().collect();
+            let ways = choose(window + route.len() as u64 - 1, window) as u64;
+            states = states.checked_mul(ways).filter(|&states| states <= most)?;
             let ways = spread(window, route.len());
-            states = states.checked_mul(ways.len() as u64).filter(|&states| states <= most)?;
             placings.push(ways.into_iter().map(|ns| route.iter().copied().zip(ns).collect()).collect());
         }
         let mut total = 0;
