@@ -1,0 +1,5 @@
+pub mod CoveringLaws
+pub mod RowLaws
+pub mod FewLaws
+pub mod BackLaws
+pub mod LoadLaws
