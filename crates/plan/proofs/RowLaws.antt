@@ -83,3 +83,7 @@ back-first n h = let e : n + (8 - n) ≡ 8 = omega arith in ap (λ x. replicate 
 pub back-more : (j v : ℕ) (rest : List ℕ) → set (replicate (suc j) 0 ++ rest) j v ≡ replicate j 0 ++ (v ∷ rest)
 back-more zero v rest = refl
 back-more (suc j) v rest = ap (λ l. 0 ∷ l) (back-more j v rest)
+
+-- a loop that has come to its end
+pub whole : {k n : ℕ} → k ≤ n → n ≤ k → k ≡ n
+whole h g = omega arith

@@ -1,9 +1,9 @@
 -- What each function of the code answers, by the numbers it is given; the laws in proofs/ lead from here to the table.
-use Prim.Native.Nat.{ℕ, zero, suc, _+_, _-_, _*_, _≤_, _<_}
+use Prim.Native.Nat.{ℕ, zero, suc, _+_, _-_, _*_, _^_, _≤_, _<_}
 use mathlib.Core.Path.{_≡_}
 use mathlib.Core.Bool.{Bool}
 use mathlib.Core.List.{List, [], _∷_, map}
-use lib.ListN.{length, getD}
+use lib.ListN.{length, getD, set, replicate}
 use Rattle.sums.specs.Lists.{from, those}
 use Rattle.network.specs.Centre.{visit}
 use Rattle.network.specs.Coverage.{Coverage, finished, partial, absent}
@@ -91,3 +91,42 @@ nodeJoined ch l r b =
 pub record Small (e : Node) : Type 0 where
   pub short : e .span ≤ 31
   pub low : (k : ℕ) → getD (e .counts) k 0 ≤ 31
+
+-- ---- the table with one node more
+
+-- what stands past the end of a list of nodes
+abbrev pub noNode : Node
+noNode = record { centre = 0; span = 0; counts = []; base = 0; cells = 0; strides = []; pairs = 0 }
+
+-- a join's children: the latest entry, and the one before the latest's subtree
+unfoldable pub rightOf : Table → Node
+rightOf t = getD (t .nodes) (t .count - 1) noNode
+
+unfoldable pub leftOf : Table → Node
+leftOf t = getD (t .nodes) (t .count - 1 - rightOf t .span) noNode
+
+unfoldable pub nodeMade : Chains → List ℕ → Table → ℕ → Node
+nodeMade ch loads t zero = nodeJoined ch (leftOf t) (rightOf t) (t .cells)
+nodeMade ch loads t (suc c) = nodeLeaf ch loads (suc c) (t .cells)
+
+unfoldable pub withNode : Table → Node → Table
+withNode t e = record { nodes = set (t .nodes) (t .count) e; count = t .count + 1; totals = t .totals; cells = t .cells + e .cells; pairs = t .pairs + e .pairs }
+
+unfoldable pub emptyTable : List ℕ → Table
+emptyTable totals =
+    let none : Node = record { centre = 0; span = 0; counts = replicate 8 0; base = 0; cells = 0; strides = replicate 8 0; pairs = 0 } in
+    record { nodes = replicate 31 none; count = 0; totals = totals; cells = 0; pairs = 0 }
+
+-- the next node can be made: a leaf's centre is one, a join finds its children
+pub record Ready (t : Table) (node : ℕ) : Type 0 where
+  pub few : t .count ≤ 31
+  pub leaf-range : node ≤ 16
+  pub found : node ≡ 0 → rightOf t .span < t .count
+  pub left-small : node ≡ 0 → Small (leftOf t)
+  pub right-small : node ≡ 0 → Small (rightOf t)
+
+-- and added
+pub record Room (t : Table) (e : Node) : Type 0 where
+  pub few : t .count < 31
+  pub cells-few : t .cells + e .cells < 2 ^ 64
+  pub pairs-few : t .pairs + e .pairs < 2 ^ 64

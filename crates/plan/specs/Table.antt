@@ -1,14 +1,18 @@
 -- The node table of a tree under given routes and windows: an entry for each node in postorder, each field by the definitions of
 -- document 01, "Coverage, cells and pairs".
+use mathlib.Core.Path.{_≡_}
 use Prim.Native.Nat.{ℕ, suc, _+_, _-_}
 use mathlib.Core.List.{List, [], _∷_, _++_, map}
-use lib.ListN.{length, replicate}
+use lib.ListN.{length, take, replicate}
 use Rattle.sums.specs.Lists.{from, those}
-use Rattle.network.specs.Centre.{Route}
+use Rattle.network.specs.Centre.{Route, routesOf}
 use Rattle.network.specs.Coverage.{Tree, leaf, join, under, visits, chainCentres}
 use Rattle.network.specs.Cells.{cells, strides, spansAt, allCells, base}
-use Rattle.network.specs.Pairs.{factors, coveredAt}
+use Rattle.network.specs.Pairs.{factors, coveredAt, allPairs}
+use Rattle.modelfile.specs.Network.{centresOf, treeOf}
+use Rattle.modelfile.specs.declared.Model.{Model}
 use Rattle.plan.specs.declared.Node.{Node}
+use Rattle.plan.specs.declared.Table.{Table}
 
 -- eight numbers, one a chain, chain 1 first; 0 past the chains
 unfoldable pub padded : ℕ → List ℕ → List ℕ
@@ -55,3 +59,19 @@ module _ (routes : List Route) (windows : List ℕ) where
   unfoldable pub entries : Tree → ℕ → List Node
   entries (leaf c) start = entry (leaf c) start ∷ []
   entries (join l r) start = entries l start ++ (entries r (start + allCells routes windows l) ++ (entry (join l r) start ∷ []))
+
+-- ---- of a model, under the windows of a run
+
+abbrev pub runWindows : Model → List ℕ → List ℕ
+runWindows m windows = take (m .chains) windows
+
+abbrev pub routesIn : Model → List Route
+routesIn m = routesOf (centresOf m)
+
+pub record Tabled (m : Model) (windows : List ℕ) (t : Table) : Type 0 where
+  pub nodes-long : length (t .nodes) ≡ 31
+  pub nodes-are : take (t .count) (t .nodes) ≡ entries (routesIn m) (runWindows m windows) (treeOf m) 0
+  pub count-is : t .count ≡ m .count
+  pub totals-are : t .totals ≡ totalsOf (routesIn m) (runWindows m windows)
+  pub cells-are : t .cells ≡ allCells (routesIn m) (runWindows m windows) (treeOf m)
+  pub pairs-are : t .pairs ≡ allPairs (routesIn m) (runWindows m windows) (treeOf m)
