@@ -5,3 +5,6 @@ pub mod BackLaws
 pub mod ThoseLaws
 pub mod LoadLaws
 pub mod MadeLaws
+pub mod StackLaws
+pub mod ForestLaws
+pub mod EntryLaws

@@ -5,8 +5,8 @@ use mathlib.Core.List.{List, [], _∷_, _++_, map, append-assoc}
 use native.Mathlib.Omega.{arith}
 use native.Mathlib.Numerals.{add-one}
 use native.Mathlib.Nat.{zero-add}
-use lib.ListN.{length, getD, set, replicate, length-map, length-append, length-set, length-replicate, replicate-append-replicate, List·getD-append, List·getD-eq-default}
-use lib.Seq.{set-at, getD-append-add}
+use lib.ListN.{length, getD, set, take, replicate, length-map, length-append, length-set, length-replicate, replicate-append-replicate, List·getD-append}
+use lib.Seq.{set-at, ext-getD, getD-take, length-take-le}
 use Rattle.sums.specs.Lists.{from}
 use Rattle.sums.proofs.ListLaws.{map-append, map-cong, getD-map-in, length-from, getD-from, from-out}
 use Rattle.plan.specs.Table.{padded, row}
@@ -56,6 +56,24 @@ zeros : (m k : ℕ) → _≡_ {A = ℕ} (getD (replicate m 0) k 0) 0
 zeros zero k = refl
 zeros (suc m) zero = refl
 zeros (suc m) (suc k) = zeros m k
+
+pub row-few : (f : ℕ → ℕ) (most : ℕ) → ((k : ℕ) → f k ≤ most) → (n k : ℕ) → getD (row n f) k 0 ≤ most
+unfolding padded from
+row-few f most h n k = by 0 n (8 - n) k
+  where
+    by : (a n m k : ℕ) → getD (map f (from a n) ++ replicate m 0) k 0 ≤ most
+    by a zero m k = omega (arith, zeros m k)
+    by a (suc n) m zero = h a
+    by a (suc n) m (suc k) = by (suc a) n m k
+
+-- the first entries of an array
+pub take-is : (xs : List ℕ) (n : ℕ) → n ≤ length xs → map (λ i. getD xs i 0) (from 0 n) ≡ take n xs
+take-is xs n h =
+    ext-getD 0 (map (λ i. getD xs i 0) (from 0 n)) (take n xs) (length-filled (λ i. getD xs i 0) n ∙ sym (length-take-le n xs h))
+    (λ k m. let l : k < n = omega (arith, length-filled (λ i. getD xs i 0) n) in
+    getD-map-in (λ i. getD xs i 0) (from 0 n) k 0 0 (omega (arith, length-from 0 n))
+    ∙ ap (λ x. getD xs x 0) (getD-from 0 n k l ∙ zero-add k)
+    ∙ sym (getD-take n xs k 0 l))
 
 -- a loop that fills the row chain by chain, k chains being done
 pub record Rowed (f : ℕ → ℕ) (chains : ℕ) (a : List ℕ) (k : ℕ) : Type 0 where
