@@ -8,3 +8,5 @@ pub mod MadeLaws
 pub mod StackLaws
 pub mod ForestLaws
 pub mod EntryLaws
+pub mod ModelLaws
+pub mod GrownLaws

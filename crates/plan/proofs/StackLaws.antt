@@ -62,40 +62,40 @@ under-subtrees S [] = sym (append-nil (allUnder S))
 under-subtrees S (zero ∷ xs) = under-subtrees (joined S) xs ∙ ap (λ l. l ++ leavesIn xs) (joined-under S)
 under-subtrees S (suc c ∷ xs) = under-subtrees (leaf (suc c) ∷ S) xs ∙ append-assoc (allUnder S) (suc c ∷ []) (leavesIn xs)
 
-module _ (nodes : List ℕ) (t : Tree) (one : subtrees [] nodes ≡ t ∷ []) (all : nodesIn t ≡ length nodes) where
-  unfoldable pub stack : ℕ → List Tree
-  stack i = subtrees [] (take i nodes)
+unfoldable pub stack : List ℕ → ℕ → List Tree
+stack nodes i = subtrees [] (take i nodes)
 
+module _ (nodes : List ℕ) (t : Tree) (one : subtrees [] nodes ≡ t ∷ []) (all : nodesIn t ≡ length nodes) where
   -- the centres so far and those to come
-  pub parted-stack : (i : ℕ) → allUnder (stack i) ++ leavesIn (drop i nodes) ≡ under t
+  pub parted-stack : (i : ℕ) → allUnder (stack nodes i) ++ leavesIn (drop i nodes) ≡ under t
   unfolding stack allUnder
   parted-stack i =
       sym (under-subtrees (subtrees [] (take i nodes)) (drop i nodes))
       ∙ ap allUnder (sym (subtrees-append [] (take i nodes) (drop i nodes)) ∙ ap (subtrees []) (take-append-drop i nodes) ∙ one)
 
-  stack-more : (i : ℕ) → i < length nodes → stack (suc i) ≡ subtrees (stack i) (getD nodes i 0 ∷ [])
+  stack-more : (i : ℕ) → i < length nodes → stack nodes (suc i) ≡ subtrees (stack nodes i) (getD nodes i 0 ∷ [])
   unfolding stack
   stack-more i h = ap (subtrees []) (take-suc nodes i 0 h) ∙ subtrees-append [] (take i nodes) (getD nodes i 0 ∷ [])
 
-  stack-few : (i : ℕ) → i ≤ length nodes → nodesOf (stack i) ≤ i
+  stack-few : (i : ℕ) → i ≤ length nodes → nodesOf (stack nodes i) ≤ i
   unfolding stack nodesOf
   stack-few i h = omega (arith, nodes-few [] (take i nodes), length-take-le i nodes h)
 
   -- all nodes are in the end in the tree, so the nodes to come cannot be too few
-  stack-enough : (i : ℕ) → i ≤ length nodes → i ≤ nodesOf (stack i)
+  stack-enough : (i : ℕ) → i ≤ length nodes → i ≤ nodesOf (stack nodes i)
   unfolding stack nodesOf
   stack-enough i h =
       let e : subtrees (subtrees [] (take i nodes)) (drop i nodes) ≡ t ∷ [] = sym (subtrees-append [] (take i nodes) (drop i nodes)) ∙ ap (subtrees []) (take-append-drop i nodes) ∙ one in
       omega (arith, ap nodesOf e, all, nodes-few (subtrees [] (take i nodes)) (drop i nodes), length-drop i nodes)
 
-  pub stack-count : (i : ℕ) → i ≤ length nodes → nodesOf (stack i) ≡ i
+  pub stack-count : (i : ℕ) → i ≤ length nodes → nodesOf (stack nodes i) ≡ i
   stack-count i h = omega (arith, stack-few i h, stack-enough i h)
 
-  pub next : (i : ℕ) → i < length nodes → Next (stack i) (getD nodes i 0) (stack (suc i))
+  pub next : (i : ℕ) → i < length nodes → Next (stack nodes i) (getD nodes i 0) (stack nodes (suc i))
   unfolding subtrees joined nodesOf nodesIn
   next i h =
-      subst (Next (stack i) (getD nodes i 0)) (sym (stack-more i h))
-      (by (stack i) (getD nodes i 0) (sym (ap nodesOf (stack-more i h)) ∙ stack-count (suc i) h ∙ ap suc (sym (stack-count i (omega arith)))))
+      subst (Next (stack nodes i) (getD nodes i 0)) (sym (stack-more i h))
+      (by (stack nodes i) (getD nodes i 0) (sym (ap nodesOf (stack-more i h)) ∙ stack-count (suc i) h ∙ ap suc (sym (stack-count i (omega arith)))))
     where
       by : (S : List Tree) (x : ℕ) → nodesOf (subtrees S (x ∷ [])) ≡ suc (nodesOf S) → Next S x (subtrees S (x ∷ []))
       by S (suc c) e = Next.grown c

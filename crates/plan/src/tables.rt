@@ -7,12 +7,12 @@ ghost use Rattle.sums.specs.Lists.{from};
 ghost use Rattle.modelfile.proofs.Guaranteed.{Guaranteed};
 ghost use Rattle.plan.specs.Table.{row, Tabled};
 ghost use Rattle.plan.specs.Steps.{countBy, noNode, nodeMade, withNode, emptyTable, Few, Ready, Room};
-use crate::nodes::join_node;
-use crate::nodes::leaf_node;
-use crate::nodes::visiting;
 use crate::Chains;
 use crate::Node;
 use crate::Table;
+use crate::nodes::join_node;
+use crate::nodes::leaf_node;
+use crate::nodes::visiting;
 use modelfile::Model;
 
 // How many centres the chain at `k` visits.
@@ -104,7 +104,6 @@ pub fn make_table(m: Model, windows: [usize; 8]) -> Table
 {
     let loads = m.loads;
     let nodes = m.nodes;
-    let count = m.count;
     let totals = totals_of(&loads, m.centres, m.chains);
     let ch = Chains {
         count: m.chains,
@@ -113,7 +112,7 @@ pub fn make_table(m: Model, windows: [usize; 8]) -> Table
     };
     let mut t = empty_table(totals);
     let mut i = 0;
-    while i < count {
+    while i < m.count {
         let e = made(t, ch, &loads, nodes[i]);
         t = with_node(t, e);
         i += 1;
