@@ -1,0 +1,288 @@
+-- The loop over the nodes: after i of them the table holds the entries of the subtrees that they leave. A node's entry is made from a
+-- leaf's loads or from the two latest subtrees' own entries; at the end one tree is left.
+use Prim.Native.Nat.{ℕ, zero, suc, _+_, _-_, _*_, _^_, _≤_, _<_}
+use mathlib.Core.Path.{_≡_, refl, sym, ap, subst, _∙_}
+use mathlib.Core.List.{List, [], _∷_, _++_, map, List·Memᴰ, List·Memᴰ·head, Memᴰ·append-left, List·Permᴰ}
+use native.Mathlib.Omega.{arith}
+use native.Mathlib.Numerals.{add-one}
+use lib.ListN.{length, getD, set, take, drop, replicate, length-set, length-append}
+use lib.Seq.{getD-take, take-suc-set, take-all, length-take-le}
+use Rattle.sums.specs.Lists.{from, those}
+use Rattle.sums.proofs.ListLaws.{from-out}
+use Rattle.sums.proofs.PermLaws.{perm-in}
+use Rattle.network.specs.Coverage.{Tree, leaf, join, under, visits}
+use Rattle.network.specs.Cells.{cells, spansAt, allCells, base}
+use Rattle.network.specs.Pairs.{allPairs}
+use Rattle.network.proofs.CoverageLaws.{Parted, parted-right}
+use Rattle.modelfile.specs.Network.{subtrees, treeOf}
+use Rattle.modelfile.specs.declared.Model.{Model}
+use Rattle.modelfile.proofs.TreeLaws.{allUnder}
+use Rattle.modelfile.proofs.Guaranteed.{Guaranteed}
+use Rattle.plan.specs.Table.{row, nodesIn, countsAt, totalsOf, pairsAt, entry, entries, runWindows, routesIn, Tabled}
+use Rattle.plan.specs.Steps.{Few, Small, countBy, noNode, rightOf, leftOf, shapeBy, pairsBy, nodeLeaf, nodeJoined, nodeMade, withNode, emptyTable, Ready, Room}
+use Rattle.plan.specs.declared.Chains.{Chains}
+use Rattle.plan.specs.declared.Node.{Node}
+use Rattle.plan.specs.declared.Table.{Table}
+use Rattle.plan.proofs.RowLaws.{length-row, row-few, take-is}
+use Rattle.plan.proofs.ThoseLaws.{those-few}
+use Rattle.plan.proofs.FewLaws.{cells-few, factors-few}
+use Rattle.plan.proofs.StackLaws.{Next, nodesOf, leavesIn, nodes-under, stack, parted-stack, stack-count, next}
+use Rattle.plan.proofs.ForestLaws.{forestCells, forestPairs, forest, right-found, left-found, join-follows, join-base, join-cells, join-pairs}
+use Rattle.plan.proofs.EntryLaws.{totals-are, leaf-entry, join-entry}
+use Rattle.plan.proofs.ModelLaws.{routes-length, loads-agree, tree-parted, tree-count}
+
+-- ---- the code's numbers stay small
+
+module _ (ch : Chains) (few : Few ch) (loads : List ℕ) (t : Table) where
+  pub made-cells : (x : ℕ) → nodeMade ch loads t x .cells ≤ 2 ^ 32
+  unfolding nodeMade nodeLeaf nodeJoined shapeBy
+  made-cells zero = cells-few (ch .windows) (few .window-range) (ch .totals) _ 0 (ch .count) (few .chains-few)
+  made-cells (suc c) = cells-few (ch .windows) (few .window-range) (ch .totals) _ 0 (ch .count) (few .chains-few)
+
+  pub made-pairs : (x : ℕ) → nodeMade ch loads t x .pairs ≤ 136 ^ 8
+  unfolding nodeMade nodeLeaf nodeJoined pairsBy
+  made-pairs zero = factors-few (ch .windows) (few .window-range) (ch .totals) _ _ _ 0 (ch .count) (few .chains-few)
+  made-pairs (suc c) = omega arith
+
+pub few-chains : (m : Model) → Guaranteed m → (windows : List ℕ) → ((k : ℕ) → getD windows k 0 ≤ 15) → length windows ≡ 8 → (totals : List ℕ) → totals ≡ row (m .chains) (λ k. countBy (m .loads) k (from 1 (m .centres)))
+    → Few (record { count = m .chains; totals = totals; windows = windows })
+few-chains m g windows small long totals e =
+    record {
+      chains-few = g .chains-range .1;
+      totals-long = ap length e ∙ length-row (λ k. countBy (m .loads) k (from 1 (m .centres))) (m .chains) (g .chains-range .1);
+      windows-long = long;
+      window-range = small;
+    }
+
+-- ---- one node more
+
+-- the table's entries are those of the subtrees S
+pub record Standing (m : Model) (windows : List ℕ) (t : Table) (S : List Tree) : Type 0 where
+  pub long : length (t .nodes) ≡ 31
+  pub count-is : t .count ≡ nodesOf S
+  pub few : t .count ≤ 31
+  pub totals-are : t .totals ≡ totalsOf (routesIn m) (runWindows m windows)
+  pub nodes-are : take (t .count) (t .nodes) ≡ forest (routesIn m) (runWindows m windows) S
+  pub cells-are : t .cells ≡ forestCells (routesIn m) (runWindows m windows) S
+  pub pairs-are : t .pairs ≡ forestPairs (routesIn m) (runWindows m windows) S
+
+-- the next entry is that of the next subtree, which makes T of S
+record Follows (m : Model) (windows : List ℕ) (t : Table) (x : ℕ) (e : Node) (S T : List Tree) : Type 0 where
+  top : Tree
+  start : ℕ
+  ready : Ready t x
+  made : e ≡ entry (routesIn m) (runWindows m windows) top start
+  count-more : nodesOf T ≡ nodesOf S + 1
+  nodes-more : forest (routesIn m) (runWindows m windows) T ≡ forest (routesIn m) (runWindows m windows) S ++ (entry (routesIn m) (runWindows m windows) top start ∷ [])
+  cells-more : forestCells (routesIn m) (runWindows m windows) T ≡ forestCells (routesIn m) (runWindows m windows) S + cells (spansAt (routesIn m) (runWindows m windows) top)
+  pairs-more : forestPairs (routesIn m) (runWindows m windows) T ≡ forestPairs (routesIn m) (runWindows m windows) S + pairsAt (routesIn m) (runWindows m windows) top
+
+standing-more : {m : Model} {windows : List ℕ} (t : Table) {x : ℕ} (e : Node) {S T : List Tree} → Standing m windows t S → Follows m windows t x e S T → t .count < 31 → Standing m windows (withNode t e) T
+unfolding withNode entry
+standing-more {m} {windows} t e {S} s f h =
+    record {
+      long = length-set (t .nodes) (t .count) e ∙ s .long;
+      count-is = omega (arith, s .count-is, f .count-more);
+      few = omega arith;
+      totals-are = s .totals-are;
+      nodes-are =
+          ap (λ n. take n (set (t .nodes) (t .count) e)) (add-one (t .count))
+          ∙ take-suc-set (t .nodes) (t .count) e (omega (arith, s .long))
+          ∙ (λ i. s .nodes-are i ++ (f .made i ∷ []))
+          ∙ sym (f .nodes-more);
+      cells-are = omega (arith, s .cells-are, ap (λ (n : Node). n .cells) (f .made), f .cells-more);
+      pairs-are = omega (arith, s .pairs-are, ap (λ (n : Node). n .pairs) (f .made), f .pairs-more);
+    }
+
+module _ (m : Model) (g : Guaranteed m) (windows : List ℕ) (long : length windows ≡ 8) where
+  windows-count : length (runWindows m windows) ≡ m .chains
+  windows-count = length-take-le (m .chains) windows (omega (arith, g .chains-range .1))
+
+  entry-small : (t : Tree) (b : ℕ) → nodesIn t ≤ 31 → Small (entry (routesIn m) (runWindows m windows) t b)
+  unfolding entry countsAt
+  entry-small t b h =
+      record {
+        short = h;
+        low = row-few _ 31 (λ k. omega (arith, those-few (visits (routesIn m) (suc k)) (under t), nodes-under t)) (length (runWindows m windows));
+      }
+
+  -- a join's children in the table
+  module _ (t : Table) (l r : Tree) (S : List Tree) (s : Standing m windows t (r ∷ l ∷ S)) where
+    children-some : nodesIn r < t .count
+    unfolding nodesOf
+    children-some = omega (arith, s .count-is, nodes-under l)
+
+    children-right : rightOf t ≡ entry (routesIn m) (runWindows m windows) r (forestCells (routesIn m) (runWindows m windows) (l ∷ S))
+    unfolding rightOf
+    children-right =
+        sym (getD-take (t .count) (t .nodes) (t .count - 1) noNode (omega (arith, children-some)))
+        ∙ ap (λ es. getD es (t .count - 1) noNode) (s .nodes-are)
+        ∙ right-found (routesIn m) (runWindows m windows) l r S (t .count) (s .count-is)
+
+    right-span : rightOf t .span ≡ nodesIn r
+    unfolding entry
+    right-span = ap (λ (e : Node). e .span) children-right
+
+    children-left : leftOf t ≡ entry (routesIn m) (runWindows m windows) l (forestCells (routesIn m) (runWindows m windows) S)
+    unfolding leftOf
+    children-left =
+        ap (λ n. getD (t .nodes) (t .count - 1 - n) noNode) right-span
+        ∙ sym (getD-take (t .count) (t .nodes) (t .count - 1 - nodesIn r) noNode (omega (arith, children-some)))
+        ∙ ap (λ es. getD es (t .count - 1 - nodesIn r) noNode) (s .nodes-are)
+        ∙ left-found (routesIn m) (runWindows m windows) l r S (t .count) (s .count-is)
+
+    join-ready : Ready t 0
+    unfolding nodesOf
+    join-ready =
+        record {
+          few = s .few;
+          leaf-range = omega arith;
+          found = λ z. omega (arith, right-span, children-some);
+          left-small = λ z. subst Small (sym children-left) (entry-small l _ (omega (arith, s .count-is, s .few)));
+          right-small = λ z. subst Small (sym children-right) (entry-small r _ (omega (arith, s .count-is, s .few)));
+        }
+
+  module _ (ch : Chains) (ec : ch .count ≡ m .chains) (ew : ch .windows ≡ windows) (et : ch .totals ≡ totalsOf (routesIn m) (runWindows m windows)) where
+    count-is : ch .count ≡ length (runWindows m windows)
+    count-is = ec ∙ sym windows-count
+
+    windows-are : map (λ i. getD (ch .windows) i 0) (from 0 (length (runWindows m windows))) ≡ runWindows m windows
+    windows-are = rw (ew, windows-count) (take-is windows (m .chains) (omega (arith, g .chains-range .1)))
+
+    -- the centres under the latest subtree, and all others
+    parted-top : (top : Tree) (S : List Tree) (rest : List ℕ) → allUnder (top ∷ S) ++ rest ≡ under (treeOf m) → Parted (routesIn m) (under top) (allUnder S ++ rest)
+    unfolding allUnder
+    parted-top top S rest e = parted-right (routesIn m) (allUnder S) (under top) rest (subst (λ l. List·Permᴰ l (from 1 (length (routesIn m)))) (sym e) (tree-parted m g))
+
+    follows : {S T : List Tree} {x : ℕ} (t : Table) (rest : List ℕ) → Next S x T → Standing m windows t S → allUnder T ++ rest ≡ under (treeOf m) → Follows m windows t x (nodeMade ch (m .loads) t x) S T
+    unfolding nodeMade nodesOf nodesIn forest entries forestCells allCells forestPairs allPairs pairsAt under
+    follows {S} t rest (Next.grown c) s e =
+        let p = parted-top (leaf (suc c)) S rest e in
+        let b = from-out 1 (length (routesIn m)) (suc c) (perm-in p (List·Memᴰ·head refl)) in
+        let high : suc c ≤ length (routesIn m) = omega (arith, b .1) in
+        record {
+          top = leaf (suc c);
+          start = forestCells (routesIn m) (runWindows m windows) S;
+          ready = record { few = s .few; leaf-range = omega (arith, routes-length m, g .centres-range .1); found = λ z. absurd (omega arith); left-small = λ z. absurd (omega arith); right-small = λ z. absurd (omega arith) };
+          made =
+              leaf-entry (routesIn m) (runWindows m windows) ch count-is et windows-are (m .loads) (λ k d h. loads-agree m k d (omega (arith, windows-count))) (suc c) (t .cells) (omega arith) high (allUnder S ++ rest) p
+              ∙ ap (entry (routesIn m) (runWindows m windows) (leaf (suc c))) (s .cells-are);
+          count-more = refl;
+          nodes-more = refl;
+          cells-more = refl;
+          pairs-more = refl;
+        }
+    follows {T = T} t rest (Next.closed {S} l r) s e =
+        let R = routesIn m in
+        let N = runWindows m windows in
+        let right = children-right t l r S s in
+        let left = children-left t l r S s in
+        record {
+          top = join l r;
+          start = forestCells R N S;
+          ready = join-ready t l r S s;
+          made =
+              (λ i. nodeJoined ch (left i) (right i) (t .cells))
+              ∙ join-entry R N ch count-is et windows-are l r (forestCells R N S) (forestCells R N (l ∷ S)) (t .cells) (forestCells R N S) (s .cells-are ∙ sym (join-base R N l r S)) (allUnder S ++ rest) (parted-top (join l r) S rest e);
+          count-more = omega arith;
+          nodes-more = join-follows R N l r S;
+          cells-more = join-cells R N l r S;
+          pairs-more = join-pairs R N l r S;
+        }
+
+-- ---- the loop
+
+abbrev pub nodesGiven : Model → List ℕ
+nodesGiven m = take (m .count) (m .nodes)
+
+pub record Grown (m : Model) (windows : List ℕ) (t : Table) (i : ℕ) : Type 0 where
+  pub at-most : i ≤ m .count
+  pub standing : Standing m windows t (stack (nodesGiven m) i)
+  pub cells-low : t .cells ≤ i * 2 ^ 32
+  pub pairs-low : t .pairs ≤ i * 136 ^ 8
+
+module _ (m : Model) (g : Guaranteed m) (windows : List ℕ) (long : length windows ≡ 8) where
+  given-count : length (nodesGiven m) ≡ m .count
+  given-count = length-take-le (m .count) (m .nodes) (omega (arith, g .nodes-long, g .count-range))
+
+  pub grown-first : (totals : List ℕ) → totals ≡ row (m .chains) (λ k. countBy (m .loads) k (from 1 (m .centres))) → Grown m windows (emptyTable totals) 0
+  unfolding emptyTable stack subtrees nodesOf forest forestCells forestPairs
+  grown-first totals e =
+      record {
+        at-most = omega arith;
+        standing =
+            record {
+              long = refl;
+              count-is = refl;
+              few = omega arith;
+              totals-are = e ∙ rows;
+              nodes-are = refl;
+              cells-are = refl;
+              pairs-are = refl;
+            };
+        cells-low = omega arith;
+        pairs-low = omega arith;
+      }
+    where
+      rows : row (m .chains) (λ k. countBy (m .loads) k (from 1 (m .centres))) ≡ totalsOf (routesIn m) (runWindows m windows)
+      rows =
+          (λ i. row (sym (windows-count m g windows long) i) (λ k. countBy (m .loads) k (from 1 (sym (routes-length m) i))))
+          ∙ totals-are (routesIn m) (runWindows m windows) (m .loads) (λ k c h. loads-agree m k c (omega (arith, windows-count m g windows long)))
+
+  pub grown-last : (t : Table) (i : ℕ) → Grown m windows t i → m .count ≤ i → Tabled m windows t
+  unfolding stack forest forestCells forestPairs nodesOf
+  grown-last t i w h =
+      let s = w .standing in
+      let e : stack (nodesGiven m) i ≡ treeOf m ∷ [] = ap (subtrees []) (take-all i (nodesGiven m) (omega (arith, given-count))) ∙ g .one-tree in
+      record {
+        nodes-long = s .long;
+        nodes-are = s .nodes-are ∙ ap (forest (routesIn m) (runWindows m windows)) e;
+        count-is = s .count-is ∙ ap nodesOf e ∙ omega (arith, tree-count m g, given-count);
+        totals-are = s .totals-are;
+        cells-are = s .cells-are ∙ ap (forestCells (routesIn m) (runWindows m windows)) e ∙ omega arith;
+        pairs-are = s .pairs-are ∙ ap (forestPairs (routesIn m) (runWindows m windows)) e ∙ omega arith;
+      }
+
+  module _ (ch : Chains) (ec : ch .count ≡ m .chains) (ew : ch .windows ≡ windows) (few : Few ch) (t : Table) (i : ℕ) (w : Grown m windows t i) (h : i < m .count) (et : ch .totals ≡ t .totals) where
+    node-same : getD (nodesGiven m) i 0 ≡ getD (m .nodes) i 0
+    node-same = getD-take (m .count) (m .nodes) i 0 h
+
+    count-same : t .count ≡ i
+    count-same = w .standing .count-is ∙ stack-count (nodesGiven m) (treeOf m) (g .one-tree) (tree-count m g) i (omega (arith, given-count))
+
+    turn : Follows m windows t (getD (m .nodes) i 0) (nodeMade ch (m .loads) t (getD (m .nodes) i 0)) (stack (nodesGiven m) i) (stack (nodesGiven m) (suc i))
+    turn =
+        subst (λ x. Follows m windows t x (nodeMade ch (m .loads) t x) (stack (nodesGiven m) i) (stack (nodesGiven m) (suc i))) node-same
+        (follows m g windows long ch ec ew (et ∙ w .standing .totals-are) t (leavesIn (drop (suc i) (nodesGiven m)))
+        (next (nodesGiven m) (treeOf m) (g .one-tree) (tree-count m g) i (omega (arith, given-count)))
+        (w .standing)
+        (parted-stack (nodesGiven m) (treeOf m) (g .one-tree) (tree-count m g) (suc i)))
+
+    pub turn-ready : Ready t (getD (m .nodes) i 0)
+    turn-ready = turn .ready
+
+    module _ (e : Node) (ee : e ≡ nodeMade ch (m .loads) t (getD (m .nodes) i 0)) where
+      cells-low : e .cells ≤ 2 ^ 32
+      cells-low = subst (λ (n : Node). n .cells ≤ 2 ^ 32) (sym ee) (made-cells ch few (m .loads) t (getD (m .nodes) i 0))
+
+      pairs-low : e .pairs ≤ 136 ^ 8
+      pairs-low = subst (λ (n : Node). n .pairs ≤ 136 ^ 8) (sym ee) (made-pairs ch few (m .loads) t (getD (m .nodes) i 0))
+
+      pub turn-room : Room t e
+      turn-room =
+          record {
+            few = omega (arith, count-same, g .count-range);
+            cells-few = omega (arith, cells-low, w .cells-low, g .count-range);
+            pairs-few = omega (arith, pairs-low, w .pairs-low, g .count-range);
+          }
+
+      pub turn-grown : (u : Table) → u ≡ withNode t e → Grown m windows u (i + 1)
+      unfolding withNode
+      turn-grown u eu =
+          rw (eu, add-one i)
+          (record {
+            at-most = omega arith;
+            standing = standing-more t e (w .standing) (subst (λ n. Follows m windows t (getD (m .nodes) i 0) n (stack (nodesGiven m) i) (stack (nodesGiven m) (suc i))) (sym ee) turn) (turn-room .few);
+            cells-low = omega (arith, cells-low, w .cells-low);
+            pairs-low = omega (arith, pairs-low, w .pairs-low);
+          })

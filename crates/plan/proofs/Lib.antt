@@ -1,0 +1,12 @@
+pub mod CoveringLaws
+pub mod RowLaws
+pub mod FewLaws
+pub mod BackLaws
+pub mod ThoseLaws
+pub mod LoadLaws
+pub mod MadeLaws
+pub mod StackLaws
+pub mod ForestLaws
+pub mod EntryLaws
+pub mod ModelLaws
+pub mod GrownLaws
