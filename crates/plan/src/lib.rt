@@ -1,7 +1,7 @@
 // The node table of a model under the windows of a run, and the plan call.
-mod coverage; // coverage.rt: a chain's coverage by counting, and what it makes of cells and pairs
+pub mod coverage; // coverage.rt: a chain's coverage by counting, and what it makes of cells and pairs
 mod nodes; // nodes.rt: one node of the table
-mod tables; // tables.rt: the table, node by node
+pub mod tables; // tables.rt: the table, node by node
 
 // A chain's coverage at a node.
 pub enum Cover {
