@@ -1,17 +1,15 @@
 // The cells of one leaf: the ends of its chains' indices, whether a weight is too large, and the weights written into its part of the area.
 ghost use mathlib.Core.Path.{_≡_};
 ghost use mathlib.Core.Bool.{false};
-ghost use mathlib.Core.List.{map, _++_};
-ghost use Prim.Native.Nat.{ℕ, _+_, _^_, _≤_, _<_};
-ghost use lib.Dec.{leb};
-ghost use lib.ListN.{length, take, drop};
+ghost use Prim.Native.Nat.{_+_, _≤_};
+ghost use lib.ListN.{length};
 ghost use Rattle.sums.specs.Lists.{some};
-ghost use Rattle.network.specs.Cells.{span, indices};
-ghost use Rattle.network.specs.Weight.{weight};
+ghost use Rattle.network.specs.Cells.{span};
+ghost use Rattle.calls.specs.Start.{tooLarge};
 ghost use Rattle.binomials.specs.Rows.{rows as rowsOf};
 ghost use Rattle.weights.specs.Leaf.{lowest, highest};
 ghost use Rattle.plan.specs.Steps.{covering, Few};
-ghost use Rattle.runs.specs.Leaves.{endsBy, spansIn, loadsIn, LeafIn};
+ghost use Rattle.runs.specs.Nodes.{endsBy, leafCells, put, LeafIn};
 use plan::Chains;
 use plan::Cover;
 use plan::Node;
@@ -43,7 +41,7 @@ fn high_end(c: Cover, window: usize) -> usize
 }
 
 fn ends_of(ch: Chains, counts: [usize; 8]) -> Ends
-    requires { ⌜ Few ch ⌝ }
+    requires { ⌜ Few ch × (length counts ≡ 8) ⌝ }
     ensures { λ r. ⌜ r ≡ endsBy ch counts ⌝ }
 {
     let totals = ch.totals;
@@ -60,11 +58,12 @@ fn ends_of(ch: Chains, counts: [usize; 8]) -> Ends
     Ends { lows, highs }
 }
 
-pub fn leaf_too_large(rows: &[u64], loads: &[u64; 128], ch: Chains, n: Node) -> bool
+pub fn leaf_too_large(rows: &[u64], loads: &[u64], ch: Chains, n: Node) -> bool
     requires { ⌜ (now rows ≡ rowsOf) × LeafIn (now loads) ch n ⌝ }
-    ensures { λ r. ⌜ r ≡ some (λ x. leb (2 ^ 64) x) (map (weight (loadsIn (now (loads .entry)) ch n)) (indices (spansIn ch n))) ⌝ }
+    ensures { λ r. ⌜ r ≡ some tooLarge (leafCells (now (loads .entry)) ch n) ⌝ }
 {
-    let e = ends_of(ch, n.counts);
+    let counts = n.counts;
+    let e = ends_of(ch, counts);
     let lows = e.lows;
     let highs = e.highs;
     let k = ch.count;
@@ -73,12 +72,14 @@ pub fn leaf_too_large(rows: &[u64], loads: &[u64; 128], ch: Chains, n: Node) -> 
     weights::some_too_large(rows, &loads[a..b], &lows[..k], &highs[..k])
 }
 
-pub fn write_leaf(rows: &[u64], loads: &[u64; 128], ch: Chains, n: Node, area: &mut [u64])
-    requires { ⌜ (now rows ≡ rowsOf) × LeafIn (now loads) ch n × (n .base + n .cells ≤ length (now area)) ⌝ }
-    requires { ⌜ some (λ x. leb (2 ^ 64) x) (map (weight (loadsIn (now loads) ch n)) (indices (spansIn ch n))) ≡ false ⌝ }
-    ensures { λ _. ⌜ now (area .exit) ≡ take (n .base) (now (area .entry)) ++ (map (weight (loadsIn (now (loads .entry)) ch n)) (indices (spansIn ch n)) ++ drop (n .base + n .cells) (now (area .entry))) ⌝ }
+pub fn write_leaf(rows: &[u64], loads: &[u64], ch: Chains, n: Node, area: &mut [u64])
+    requires { ⌜ (now rows ≡ rowsOf) × LeafIn (now loads) ch n ⌝ }
+    requires { ⌜ n .base + n .cells ≤ length (now area) ⌝ }
+    requires { ⌜ some tooLarge (leafCells (now loads) ch n) ≡ false ⌝ }
+    ensures { λ _. ⌜ now (area .exit) ≡ put (n .base) (leafCells (now (loads .entry)) ch n) (now (area .entry)) ⌝ }
 {
-    let e = ends_of(ch, n.counts);
+    let counts = n.counts;
+    let e = ends_of(ch, counts);
     let lows = e.lows;
     let highs = e.highs;
     let k = ch.count;
@@ -86,5 +87,11 @@ pub fn write_leaf(rows: &[u64], loads: &[u64; 128], ch: Chains, n: Node, area: &
     let b = a + k;
     let from = n.base;
     let to = from + n.cells;
-    weights::write_cells(rows, &loads[a..b], &lows[..k], &highs[..k], &mut area[from..to]);
+    weights::write_cells(
+        rows,
+        &loads[a..b],
+        &lows[..k],
+        &highs[..k],
+        &mut area[from..to],
+    );
 }
