@@ -1,11 +1,10 @@
 -- The loops from the last chain to the first: what they hold when chains k + 1 to the last are done.
-use Prim.Native.Nat.{ℕ, zero, suc, _+_, _-_, _*_, _^_, _≤_, _<_}
-use mathlib.Core.Path.{_≡_, refl, sym, ap, subst, _∙_}
-use mathlib.Core.List.{List, [], _∷_, _++_, map}
+use Prim.Native.Nat.{ℕ, suc, _+_, _-_, _*_, _^_, _≤_}
+use mathlib.Core.Path.{_≡_, refl, ap, subst, _∙_}
+use mathlib.Core.List.{List, _∷_, _++_}
 use native.Mathlib.Omega.{arith}
 use lib.ListN.{length, getD, set, replicate, length-set}
 use Rattle.sums.specs.Lists.{from}
-use Rattle.network.specs.Coverage.{Coverage}
 use Rattle.network.specs.Cells.{Span, span, size, stride, cells, strides}
 use Rattle.network.specs.Pairs.{factor, factors}
 use Rattle.network.proofs.CoverageLaws.{coverageByCount}

@@ -1,6 +1,6 @@
 -- An entry made by counting is the entry of its node: counts by the loads are counts by the routes, counting decides coverage where
 -- the centres under the node and the rest are all centres, and the counts at a join are its children's added.
-use Prim.Native.Nat.{ℕ, zero, suc, _+_, _-_, _≤_, _<_}
+use Prim.Native.Nat.{ℕ, zero, suc, _+_, _≤_, _<_}
 use mathlib.Core.Path.{_≡_, refl, sym, ap, _∙_}
 use mathlib.Core.List.{List, [], _∷_, _++_, map, zipWith}
 use native.Mathlib.Omega.{arith}
@@ -9,11 +9,12 @@ use Rattle.sums.specs.Lists.{from, those, when}
 use Rattle.sums.proofs.ListLaws.{map-cong, from-out}
 use Rattle.sums.proofs.BoolLaws.{those-append}
 use Rattle.network.specs.Centre.{Route}
-use Rattle.network.specs.Coverage.{Coverage, Tree, leaf, join, under, visits, chainCentres, coverage, coverages}
+use Rattle.network.specs.Coverage.{Tree, leaf, join, under, visits, chainCentres, coverage, coverages}
 use Rattle.network.specs.Cells.{span, cells, strides, spansAt, base}
 use Rattle.network.specs.Pairs.{factors}
 use Rattle.network.proofs.CoverageLaws.{Parted, coverageByCount, counting, parted-left, parted-right}
-use Rattle.plan.specs.Table.{padded, row, nodesIn, centreAt, countsAt, totalsOf, pairsAt, entry}
+use Rattle.network.proofs.PostorderLaws.{nodesIn}
+use Rattle.plan.specs.Table.{padded, row, centreAt, countsAt, totalsOf, pairsAt, entry}
 use Rattle.plan.specs.Steps.{loadedBy, countBy, added, coversBy, spansBy, factorsBy, shapeBy, pairsBy, nodeLeaf, nodeJoined}
 use Rattle.plan.specs.declared.Chains.{Chains}
 use Rattle.plan.specs.declared.Shape.{Shape}

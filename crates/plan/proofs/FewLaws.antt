@@ -1,7 +1,6 @@
 -- Windows of at most 15 and at most 8 chains: a node has at most 16^8 cells, a join at most 136^8 pairs. By induction over the chains.
-use Prim.Native.Nat.{ℕ, zero, suc, _+_, _*_, _/_, _^_, _≤_, _<_}
-use mathlib.Core.Path.{_≡_, refl}
-use mathlib.Core.List.{List, [], _∷_, map}
+use Prim.Native.Nat.{ℕ, zero, suc, _+_, _*_, _^_, _≤_}
+use mathlib.Core.List.{List, map}
 use native.Mathlib.Omega.{arith}
 use native.Mathlib.Nat.{le-refl, le-trans, mul-le-mul, pow-succ', pow-le-pow-right}
 use lib.ListN.{getD}

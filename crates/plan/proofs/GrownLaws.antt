@@ -2,23 +2,25 @@
 -- leaf's loads or from the two latest subtrees' own entries; at the end one tree is left.
 use Prim.Native.Nat.{ℕ, zero, suc, _+_, _-_, _*_, _^_, _≤_, _<_}
 use mathlib.Core.Path.{_≡_, refl, sym, ap, subst, _∙_}
-use mathlib.Core.List.{List, [], _∷_, _++_, map, List·Memᴰ, List·Memᴰ·head, Memᴰ·append-left, List·Permᴰ}
+use mathlib.Core.List.{List, [], _∷_, _++_, map, List·Memᴰ·head, List·Permᴰ}
 use native.Mathlib.Omega.{arith}
 use native.Mathlib.Numerals.{add-one}
-use lib.ListN.{length, getD, set, take, drop, replicate, length-set, length-append}
+use lib.ListN.{length, getD, set, take, drop, length-set}
 use lib.Seq.{getD-take, take-suc-set, take-all, length-take-le}
-use Rattle.sums.specs.Lists.{from, those}
+use Rattle.sums.specs.Lists.{from}
 use Rattle.sums.proofs.ListLaws.{from-out}
 use Rattle.sums.proofs.PermLaws.{perm-in}
 use Rattle.network.specs.Coverage.{Tree, leaf, join, under, visits}
-use Rattle.network.specs.Cells.{cells, spansAt, allCells, base}
+use Rattle.network.specs.Cells.{cells, spansAt, allCells}
 use Rattle.network.specs.Pairs.{allPairs}
 use Rattle.network.proofs.CoverageLaws.{Parted, parted-right}
+use Rattle.network.proofs.PostorderLaws.{nodesIn}
 use Rattle.modelfile.specs.Network.{subtrees, treeOf}
 use Rattle.modelfile.specs.declared.Model.{Model}
 use Rattle.modelfile.proofs.TreeLaws.{allUnder}
 use Rattle.modelfile.proofs.Guaranteed.{Guaranteed}
-use Rattle.plan.specs.Table.{row, nodesIn, countsAt, totalsOf, pairsAt, entry, entries, runWindows, routesIn, Tabled}
+use Rattle.calls.proofs.FileLaws.{length-routes}
+use Rattle.plan.specs.Table.{row, countsAt, totalsOf, pairsAt, entry, entries, runWindows, routesIn, Tabled}
 use Rattle.plan.specs.Steps.{Few, Small, countBy, noNode, rightOf, leftOf, shapeBy, pairsBy, nodeLeaf, nodeJoined, nodeMade, withNode, emptyTable, Ready, Room}
 use Rattle.plan.specs.declared.Chains.{Chains}
 use Rattle.plan.specs.declared.Node.{Node}
@@ -29,7 +31,7 @@ use Rattle.plan.proofs.FewLaws.{cells-few, factors-few}
 use Rattle.plan.proofs.StackLaws.{Next, nodesOf, leavesIn, nodes-under, stack, parted-stack, stack-count, next}
 use Rattle.plan.proofs.ForestLaws.{forestCells, forestPairs, forest, right-found, left-found, join-follows, join-base, join-cells, join-pairs}
 use Rattle.plan.proofs.EntryLaws.{totals-are, leaf-entry, join-entry}
-use Rattle.plan.proofs.ModelLaws.{routes-length, loads-agree, tree-parted, tree-count}
+use Rattle.plan.proofs.ModelLaws.{loads-agree, tree-count}
 
 -- ---- the code's numbers stay small
 
@@ -152,7 +154,7 @@ module _ (m : Model) (g : Guaranteed m) (windows : List ℕ) (long : length wind
     -- the centres under the latest subtree, and all others
     parted-top : (top : Tree) (S : List Tree) (rest : List ℕ) → allUnder (top ∷ S) ++ rest ≡ under (treeOf m) → Parted (routesIn m) (under top) (allUnder S ++ rest)
     unfolding allUnder
-    parted-top top S rest e = parted-right (routesIn m) (allUnder S) (under top) rest (subst (λ l. List·Permᴰ l (from 1 (length (routesIn m)))) (sym e) (tree-parted m g))
+    parted-top top S rest e = parted-right (routesIn m) (allUnder S) (under top) rest (subst (λ l. List·Permᴰ l (from 1 (length (routesIn m)))) (sym e) (rw (length-routes m g) (g .leaves)))
 
     follows : {S T : List Tree} {x : ℕ} (t : Table) (rest : List ℕ) → Next S x T → Standing m windows t S → allUnder T ++ rest ≡ under (treeOf m) → Follows m windows t x (nodeMade ch (m .loads) t x) S T
     unfolding nodeMade nodesOf nodesIn forest entries forestCells allCells forestPairs allPairs pairsAt under
@@ -163,9 +165,9 @@ module _ (m : Model) (g : Guaranteed m) (windows : List ℕ) (long : length wind
         record {
           top = leaf (suc c);
           start = forestCells (routesIn m) (runWindows m windows) S;
-          ready = record { few = s .few; leaf-range = omega (arith, routes-length m, g .centres-range .1); found = λ z. absurd (omega arith); left-small = λ z. absurd (omega arith); right-small = λ z. absurd (omega arith) };
+          ready = record { few = s .few; leaf-range = omega (arith, length-routes m g, g .centres-range .1); found = λ z. absurd (omega arith); left-small = λ z. absurd (omega arith); right-small = λ z. absurd (omega arith) };
           made =
-              leaf-entry (routesIn m) (runWindows m windows) ch count-is et windows-are (m .loads) (λ k d h. loads-agree m k d (omega (arith, windows-count))) (suc c) (t .cells) (omega arith) high (allUnder S ++ rest) p
+              leaf-entry (routesIn m) (runWindows m windows) ch count-is et windows-are (m .loads) (λ k d h. loads-agree m g k d (omega (arith, windows-count))) (suc c) (t .cells) (omega arith) high (allUnder S ++ rest) p
               ∙ ap (entry (routesIn m) (runWindows m windows) (leaf (suc c))) (s .cells-are);
           count-more = refl;
           nodes-more = refl;
@@ -226,8 +228,8 @@ module _ (m : Model) (g : Guaranteed m) (windows : List ℕ) (long : length wind
     where
       rows : row (m .chains) (λ k. countBy (m .loads) k (from 1 (m .centres))) ≡ totalsOf (routesIn m) (runWindows m windows)
       rows =
-          (λ i. row (sym (windows-count m g windows long) i) (λ k. countBy (m .loads) k (from 1 (sym (routes-length m) i))))
-          ∙ totals-are (routesIn m) (runWindows m windows) (m .loads) (λ k c h. loads-agree m k c (omega (arith, windows-count m g windows long)))
+          (λ i. row (sym (windows-count m g windows long) i) (λ k. countBy (m .loads) k (from 1 (sym (length-routes m g) i))))
+          ∙ totals-are (routesIn m) (runWindows m windows) (m .loads) (λ k c h. loads-agree m g k c (omega (arith, windows-count m g windows long)))
 
   pub grown-last : (t : Table) (i : ℕ) → Grown m windows t i → m .count ≤ i → Tabled m windows t
   unfolding stack forest forestCells forestPairs nodesOf

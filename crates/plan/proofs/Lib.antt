@@ -10,3 +10,5 @@ pub mod ForestLaws
 pub mod EntryLaws
 pub mod ModelLaws
 pub mod GrownLaws
+pub mod LowerLaws
+pub mod PlanLaws

@@ -1,15 +1,15 @@
 -- The subtrees that the first nodes of a whole tree leave. Each node adds a leaf or closes the two latest subtrees: a join that found
 -- fewer than two would be counted in no subtree, and the whole tree counts all nodes. The centres so far and those to come are the tree's.
-use Prim.Native.Nat.{ℕ, zero, suc, _+_, _-_, _*_, _≤_, _<_}
+use Prim.Native.Nat.{ℕ, zero, suc, _+_, _*_, _≤_, _<_}
 use mathlib.Core.Path.{_≡_, refl, sym, ap, subst, _∙_}
 use mathlib.Core.List.{List, [], _∷_, _++_, append-assoc, append-nil}
 use native.Mathlib.Omega.{arith}
 use lib.ListN.{length, getD, take, drop, length-append, length-drop, take-append-drop}
-use lib.Seq.{take-suc, drop-cons, length-take-le}
+use lib.Seq.{take-suc, length-take-le}
 use Rattle.network.specs.Coverage.{Tree, leaf, join, under}
+use Rattle.network.proofs.PostorderLaws.{nodesIn}
 use Rattle.modelfile.specs.Network.{joined, subtrees}
 use Rattle.modelfile.proofs.TreeLaws.{allUnder}
-use Rattle.plan.specs.Table.{nodesIn}
 
 -- what one node makes of the subtrees, the latest first
 pub data Next : List Tree → ℕ → List Tree → Type 0 where

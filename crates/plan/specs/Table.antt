@@ -9,6 +9,7 @@ use Rattle.network.specs.Centre.{Route, routesOf}
 use Rattle.network.specs.Coverage.{Tree, leaf, join, under, visits, chainCentres}
 use Rattle.network.specs.Cells.{cells, strides, spansAt, allCells, base}
 use Rattle.network.specs.Pairs.{factors, coveredAt, allPairs}
+use Rattle.network.proofs.PostorderLaws.{nodesIn}
 use Rattle.modelfile.specs.Network.{centresOf, treeOf}
 use Rattle.modelfile.specs.declared.Model.{Model}
 use Rattle.plan.specs.declared.Node.{Node}
@@ -20,11 +21,6 @@ padded chains xs = xs ++ replicate (8 - chains) 0
 
 abbrev pub row : ℕ → (ℕ → ℕ) → List ℕ
 row chains f = padded chains (map f (from 0 chains))
-
--- how many nodes a subtree has
-unfoldable pub nodesIn : Tree → ℕ
-nodesIn (leaf c) = 1
-nodesIn (join l r) = nodesIn l + nodesIn r + 1
 
 unfoldable pub centreAt : Tree → ℕ
 centreAt (leaf c) = c

@@ -4,14 +4,12 @@ ghost use Prim.Native.Nat.{ℕ, _+_, _≤_, _<_};
 ghost use mathlib.Core.List.{_∷_, []};
 ghost use lib.ListN.{length, getD};
 ghost use Rattle.plan.specs.Table.{row};
-ghost use Rattle.plan.specs.Steps.{countBy, added, shapeBy, pairsBy, nodeLeaf, nodeJoined, Few, Small};
+ghost use Rattle.plan.specs.Steps.{countBy, added, pairsBy, nodeLeaf, nodeJoined, Few, Small};
 use crate::Chains;
 use crate::Node;
-use crate::Shape;
+use crate::arrays::shape;
 use crate::coverage::coverage;
 use crate::coverage::factor;
-use crate::coverage::size;
-use crate::coverage::stride;
 
 // 1 if the chain at `k`, counted from 0, visits the centre, else 0.
 pub fn visiting(loads: &[u64; 128], centre: usize, k: usize) -> usize
@@ -48,25 +46,6 @@ fn join_counts(left: [usize; 8], right: [usize; 8], chains: usize) -> [usize; 8]
         k += 1;
     }
     counts
-}
-
-// From the last chain to the first: a chain's stride is the number of cells that the later chains make.
-fn shape(ch: Chains, counts: [usize; 8]) -> Shape
-    requires { ⌜ Few ch ⌝ }
-    ensures { λ r. ⌜ r ≡ shapeBy ch counts ⌝ }
-{
-    let totals = ch.totals;
-    let windows = ch.windows;
-    let mut k = ch.count;
-    let mut cells: usize = 1;
-    let mut strides = [0usize; 8];
-    while 0 < k {
-        k -= 1;
-        let cover = coverage(counts[k], totals[k]);
-        strides[k] = stride(cover, windows[k], cells);
-        cells = size(cover, windows[k]) * cells;
-    }
-    Shape { cells, strides }
 }
 
 // The product of the chains' factors; `joined` has the counts at the join.

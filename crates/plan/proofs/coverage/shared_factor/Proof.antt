@@ -1,41 +1,31 @@
+-- `coverage::shared_factor` meets its contract, case by case of the coverage at the join.
 use mathlib.Core.Path.{_∙_}
 use Rattle.plan.proofs.CoveringLaws.{shared-finished, shared-partial, shared-absent}
 use borrow.Author.Needs.{needs}
 use Rattle.plan.proofs.coverage.shared_factor.Statement.{statement}
 use Rattle.plan.proofs.coverage.shared_factor.Tie as tie
-use Rattle.plan.proofs.coverage.shared_factor.Reads as reads
-use Rattle.plan.proofs.coverage.shared_factor.Lts as lts
-use Rattle.plan.proofs.coverage.triangle.Reads as triangle-reads
 
--- src/coverage.rt:61:28
 enum-told : tie.Need-enum-told
 enum-told c = search needs
 
--- src/coverage.rt:61:28
 add-result : tie.Need-add-result
 add-result c = search needs
 
--- src/coverage.rt:62:27
 enum-told-2 : tie.Need-enum-told-2
 enum-told-2 c = search needs
 
--- src/coverage.rt:62:27
 triangle-requires : tie.Need-triangle-requires
 triangle-requires c κs = search needs
 
--- src/coverage.rt:63:26
 enum-told-3 : tie.Need-enum-told-3
 enum-told-3 c = search needs
 
--- src/coverage.rt:56:1
 returns : tie.Need-returns
 returns c = search shared-finished
 
--- src/coverage.rt:56:1
 returns-2 : tie.Need-returns-2
 returns-2 c = c .triangle .ensures ∙ search shared-partial
 
--- src/coverage.rt:56:1
 returns-3 : tie.Need-returns-3
 returns-3 c = search shared-absent
 

@@ -1,15 +1,11 @@
-use Prim.Native.Nat.{_+_, _-_}
+-- `nodes::leaf_counts` meets its contract. The loop's invariant: the row is filled for the first k chains (`Rowed`).
+use Prim.Native.Nat.{_-_}
 use mathlib.Core.List.{_∷_, []}
-use lib.ListN.{getD}
-use Rattle.plan.specs.Steps.{countBy, added}
+use Rattle.plan.specs.Steps.{countBy}
 use Rattle.plan.proofs.RowLaws.{Rowed, rowed-first, rowed-turn, rowed-last}
 use borrow.Author.Needs.{needs}
-use native.Mathlib.Omega.{arith}
 use Rattle.plan.proofs.nodes.leaf_counts.Statement.{statement}
 use Rattle.plan.proofs.nodes.leaf_counts.Tie as tie
-use Rattle.plan.proofs.nodes.leaf_counts.Reads as reads
-use Rattle.plan.proofs.nodes.leaf_counts.Lts as lts
-use Rattle.plan.proofs.nodes.visiting.Reads as visiting-reads
 
 abbrev Inv-loop : tie.InvT-loop
 Inv-loop loads chains centre counts₀ k₀ counts k = Rowed (λ i. countBy loads i (centre ∷ [])) chains counts k
@@ -17,35 +13,27 @@ Inv-loop loads chains centre counts₀ k₀ counts k = Rowed (λ i. countBy load
 abbrev μ-loop : tie.MeasureT-loop
 μ-loop loads chains centre counts₀ k₀ counts k = chains - k
 
--- src/nodes.rt:33:5
 loop-holds : tie.Need-loop-holds Inv-loop μ-loop
 loop-holds c = rowed-first _ _
 
--- src/nodes.rt:34:21
 visiting-requires : tie.Need-visiting-requires Inv-loop μ-loop
 visiting-requires c κs = search needs
 
--- src/nodes.rt:34:9
 mul-counts : tie.Need-mul-counts Inv-loop μ-loop
 mul-counts c = search needs
 
--- src/nodes.rt:34:9
 array-write-counts : tie.Need-array-write-counts Inv-loop μ-loop
 array-write-counts c = search needs
 
--- src/nodes.rt:35:9
 add-k : tie.Need-add-k Inv-loop μ-loop
 add-k c = search needs
 
--- src/nodes.rt:33:5
 loop-less : tie.Need-loop-less Inv-loop μ-loop
 loop-less c = search needs
 
--- src/nodes.rt:33:5
 loop-again : tie.Need-loop-again Inv-loop μ-loop
 loop-again c = rowed-turn _ _ (c .before .before .loop .inv) (c .before .loop-test .taken) (c .before .before .before .pre .2) (c .visiting .ensures)
 
--- src/nodes.rt:27:1
 returns : tie.Need-returns Inv-loop μ-loop
 returns c = rowed-last _ _ (c .before .loop .inv) (c .loop-test .left)
 

@@ -1,35 +1,27 @@
+-- `nodes::visiting` meets its contract: a load of 0 is no visit.
 use Rattle.plan.proofs.LoadLaws.{count-none, count-one}
 use borrow.Author.Needs.{needs}
 use Rattle.plan.proofs.nodes.visiting.Statement.{statement}
 use Rattle.plan.proofs.nodes.visiting.Tie as tie
-use Rattle.plan.proofs.nodes.visiting.Reads as reads
-use Rattle.plan.proofs.nodes.visiting.Lts as lts
 
--- src/nodes.rt:21:15
 sub-if1 : tie.Need-sub-if1
 sub-if1 c = search needs
 
--- src/nodes.rt:21:14
 mul-if1 : tie.Need-mul-if1
 mul-if1 c = search needs
 
--- src/nodes.rt:21:14
 add-if1 : tie.Need-add-if1
 add-if1 c = search needs
 
--- src/nodes.rt:21:8
 mul-if1-2 : tie.Need-mul-if1-2
 mul-if1-2 c = search needs
 
--- src/nodes.rt:21:8
 element-copy-out-if1 : tie.Need-element-copy-out-if1
 element-copy-out-if1 c = search needs
 
--- src/nodes.rt:22:9
 returns : tie.Need-returns
 returns c = count-none _ _ _ (c .if1 .taken)
 
--- src/nodes.rt:17:1
 returns-2 : tie.Need-returns-2
 returns-2 c = count-one _ _ _ (c .if1 .left)
 

@@ -1,11 +1,9 @@
+-- `tables::empty_table` meets its contract.
 use mathlib.Core.Path.{refl}
 use Rattle.plan.specs.Steps.{emptyTable}
 use Rattle.plan.proofs.tables.empty_table.Statement.{statement}
 use Rattle.plan.proofs.tables.empty_table.Tie as tie
-use Rattle.plan.proofs.tables.empty_table.Reads as reads
-use Rattle.plan.proofs.tables.empty_table.Lts as lts
 
--- src/tables.rt:80:1
 returns : tie.Need-returns
 unfolding emptyTable
 returns c = refl

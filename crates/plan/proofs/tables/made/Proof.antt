@@ -1,48 +1,35 @@
+-- `tables::made` meets its contract: a join finds its two children, which are small enough to be added.
 use mathlib.Core.Path.{_∙_}
 use Rattle.plan.proofs.MadeLaws.{some-before, span-lt, left-small, right-small, made-join, made-leaf}
 use native.Mathlib.Omega.{arith}
 use borrow.Author.Needs.{needs}
 use Rattle.plan.proofs.tables.made.Statement.{statement}
 use Rattle.plan.proofs.tables.made.Tie as tie
-use Rattle.plan.proofs.tables.made.Reads as reads
-use Rattle.plan.proofs.tables.made.Lts as lts
-use Rattle.plan.proofs.nodes.join_node.Reads as join-node-reads
-use Rattle.plan.proofs.nodes.leaf_node.Reads as leaf-node-reads
-use Rattle.plan.proofs.tables.node_at.Reads as node-at-reads
 
--- src/tables.rt:60:32
 sub-node-at : tie.Need-sub-node-at
 sub-node-at c = omega (arith, some-before _ _ (c .before .pre .1) (c .if1 .taken))
 
--- src/tables.rt:60:13
 node-at-requires : tie.Need-node-at-requires
 node-at-requires c κs = search needs
 
--- src/tables.rt:61:31
 sub-node-at-2 : tie.Need-sub-node-at-2
 sub-node-at-2 c = omega (arith, some-before _ _ (c .before .before .pre .1) (c .before .if1 .taken))
 
--- src/tables.rt:61:31
 sub-node-at-3 : tie.Need-sub-node-at-3
 sub-node-at-3 c = omega (arith, span-lt _ _ (c .before .before .before .pre .1) (c .before .before .if1 .taken) _ (c .before .node-at .ensures))
 
--- src/tables.rt:61:13
 node-at-requires-2 : tie.Need-node-at-requires-2
 node-at-requires-2 c κs = search needs
 
--- src/tables.rt:62:9
 join-node-requires : tie.Need-join-node-requires
 join-node-requires c κs = (c .before .before .before .before .pre .0, left-small _ _ (c .before .before .before .before .pre .1) (c .before .before .before .if1 .taken) _ (c .before .before .node-at .ensures) _ (c .node-at2 .ensures), right-small _ _ (c .before .before .before .before .pre .1) (c .before .before .before .if1 .taken) _ (c .before .before .node-at .ensures))
 
--- src/tables.rt:62:9
 returns : tie.Need-returns
 returns c = c .join-node .ensures ∙ made-join _ _ (c .before .before .before .before .before .pre .1) (c .before .before .before .before .if1 .taken) _ (c .before .before .before .node-at .ensures) _ (c .before .node-at2 .ensures) _ _
 
--- src/tables.rt:64:5
 leaf-node-requires : tie.Need-leaf-node-requires
 leaf-node-requires c κs = search needs
 
--- src/tables.rt:53:1
 returns-2 : tie.Need-returns-2
 returns-2 c = c .leaf-node .ensures ∙ made-leaf _ _ _ _ (c .before .if1 .left)
 

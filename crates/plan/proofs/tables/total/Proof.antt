@@ -1,4 +1,5 @@
-use Prim.Native.Nat.{_+_, _-_, _≤_}
+-- `tables::total` meets its contract. The loop's invariant: the sum counts the visits to centres 1 to c.
+use Prim.Native.Nat.{_-_, _≤_}
 use mathlib.Core.Path.{_≡_, refl}
 use Rattle.sums.specs.Lists.{from, those}
 use Rattle.plan.specs.Steps.{countBy}
@@ -8,9 +9,6 @@ use borrow.Author.Needs.{needs}
 use native.Mathlib.Omega.{arith}
 use Rattle.plan.proofs.tables.total.Statement.{statement}
 use Rattle.plan.proofs.tables.total.Tie as tie
-use Rattle.plan.proofs.tables.total.Reads as reads
-use Rattle.plan.proofs.tables.total.Lts as lts
-use Rattle.plan.proofs.nodes.visiting.Reads as visiting-reads
 
 abbrev Inv-loop : tie.InvT-loop
 Inv-loop loads centres k sum₀ c₀ sum c = (c ≤ centres) × (sum ≡ countBy loads k (from 1 c))
@@ -18,32 +16,25 @@ Inv-loop loads centres k sum₀ c₀ sum c = (c ≤ centres) × (sum ≡ countBy
 abbrev μ-loop : tie.MeasureT-loop
 μ-loop loads centres k sum₀ c₀ sum c = centres - c
 
--- src/tables.rt:25:5
 loop-holds : tie.Need-loop-holds Inv-loop μ-loop
 unfolding from countBy those
 loop-holds c = (omega arith, refl)
 
--- src/tables.rt:26:9
 add-c : tie.Need-add-c Inv-loop μ-loop
 add-c c = search needs
 
--- src/tables.rt:27:16
 visiting-requires : tie.Need-visiting-requires Inv-loop μ-loop
 visiting-requires c κs = search needs
 
--- src/tables.rt:27:9
 add-sum : tie.Need-add-sum Inv-loop μ-loop
 add-sum c = omega (arith, count-few _ _ (c .before .before .loop .c) _ _ (c .before .before .loop .inv .1) (c .visiting .ensures))
 
--- src/tables.rt:25:5
 loop-less : tie.Need-loop-less Inv-loop μ-loop
 loop-less c = search needs
 
--- src/tables.rt:25:5
 loop-again : tie.Need-loop-again Inv-loop μ-loop
 loop-again c = (omega arith, count-more _ _ _ _ _ (c .before .before .loop .inv .1) (c .visiting .ensures))
 
--- src/tables.rt:19:1
 returns : tie.Need-returns Inv-loop μ-loop
 returns c = let e : c .before .loop .c ≡ _ = whole (c .before .loop .inv .0) (c .loop-test .left) in rw e at (c .before .loop .inv .1)
 
