@@ -97,8 +97,10 @@ module _ {A : Type 0} (g : A → List ℕ) (nodes : List A) (d : A) where
       let X = g (getD nodes i d) in
       let m : cellsTo (i + 1) ≡ P ++ X = to-more i h in
       let k : length P + length X ≡ length (P ++ X) = sym (length-append P X) in
-      record { is =
-        e ∙ (λ j. put (ea j) X (w .is j))
-        ∙ (λ j. take-append-seam P (drop (length P) old) j ++ (X ++ (drop-append-add P (drop (length P) old) (length X) ∙ drop-drop (length X) (length P) old ∙ ap (λ n. drop n old) k) j))
-        ∙ sym (append-assoc P X (drop (length (P ++ X)) old))
-        ∙ ap (λ l. l ++ drop (length l) old) (sym m) }
+      record {
+        is =
+            e ∙ (λ j. put (ea j) X (w .is j))
+            ∙ (λ j. take-append-seam P (drop (length P) old) j ++ (X ++ (drop-append-add P (drop (length P) old) (length X) ∙ drop-drop (length X) (length P) old ∙ ap (λ n. drop n old) k) j))
+            ∙ sym (append-assoc P X (drop (length (P ++ X)) old))
+            ∙ ap (λ l. l ++ drop (length l) old) (sym m);
+      }

@@ -1,3 +1,10 @@
+-- `write_node` meets its contract: a join's part is cleared and put back, a leaf's weights are written.
+use mathlib.Core.Path.{sym, ap, _∙_}
+use Rattle.sums.specs.Lists.{some}
+use Rattle.calls.specs.Start.{tooLarge}
+use Rattle.runs.specs.Nodes.{put}
+use Rattle.runs.proofs.LeafLaws.{part-room}
+use Rattle.runs.proofs.NodeLaws.{leaf-cells, join-put}
 use borrow.Author.Needs.{needs}
 use Rattle.runs.proofs.fill.write_node.Statement.{statement}
 use Rattle.runs.proofs.fill.write_node.Tie as tie
@@ -36,11 +43,11 @@ same-length c = search needs
 
 -- src/fill.rt:52:9
 returns : tie.Need-returns
-returns c = ?
+returns c = join-put _ (c .before .before .before .before .before .before .before .before .before .before .args .ch) (c .before .before .before .before .before .before .before .before .before .before .args .n) (c .before .before .before .before .before .before .before .before .before .before .args .area .now) (c .before .before .before .before .before .if1 .taken) (c .before .before .clear .ensures) (part-room _ _ _ (c .before .before .before .before .before .before .before .before .before .before .pre .1 .0))
 
 -- src/fill.rt:54:5
 write-leaf-requires : tie.Need-write-leaf-requires
-write-leaf-requires c κs = ?
+write-leaf-requires c κs = ((c .before .before .before .before .before .before .pre .0 .0, c .before .before .before .before .before .before .pre .0 .1 (c .before .if1 .left)), (c .before .before .before .before .before .before .pre .1 .0, ap (some tooLarge) (sym (leaf-cells _ _ _ (c .before .if1 .left))) ∙ c .before .before .before .before .before .before .pre .1 .1))
 
 -- src/fill.rt:42:1
 same-length-2 : tie.Need-same-length-2
@@ -48,7 +55,7 @@ same-length-2 c = search needs
 
 -- src/fill.rt:42:1
 returns-2 : tie.Need-returns-2
-returns-2 c = ?
+returns-2 c = c .before .before .write-leaf .ensures ∙ ap (λ l. put (c .before .before .before .before .before .before .before .before .before .args .n .base) l (c .before .before .before .before .before .before .before .before .before .args .area .now)) (sym (leaf-cells _ _ _ (c .before .before .before .before .if1 .left)))
 
 pub write-node-spec : {M : Type 1} → statement M
 write-node-spec =
