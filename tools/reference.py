@@ -189,10 +189,31 @@ def sheet(file, room=8192):
     return lines
 
 
+B = bytes.fromhex('0103020201010202010301010001030102000203020100030303020001040104020504030506')
+VALUES = [0, 1, 2, 3, 4, 5, 6, 7, 8, 16, 17, 255]
+
+
+def damage():
+    """The lines of the program crates/damage: B lowered, B's front parts, B with a byte set, B with a byte put in."""
+    def line(name, at, value, file, lower=0):
+        answer = plan(file, lower)
+        return f'{name} {at} {value}: ' + ' '.join(map(str, answer[:2] if answer[0] else answer))
+    yield from (line('l', 0, 0, B, lower) for lower in range(5))
+    for at in range(39):
+        if at <= 38:
+            yield line('f', at, 0, B[:at])
+        for i, value in enumerate(VALUES):
+            yield line('s', at, i, B[:at] + bytes([value]) + B[at + 1:] if at < 38 else B)
+        for value in (3, 4, 5, 6):
+            yield line('p', at, 0, B[:at] + bytes([value]) + B[at:])
+
+
 if __name__ == '__main__':
     if sys.argv[1:2] == ['sheet']:
         print('\n'.join(sheet(open(sys.argv[2], 'rb').read())))
     elif sys.argv[1:2] == ['plan']:
         print(*plan(open(sys.argv[3], 'rb').read(), int(sys.argv[2])))
+    elif sys.argv[1:2] == ['damage']:
+        print('\n'.join(damage()))
     else:
         sys.exit(__doc__)

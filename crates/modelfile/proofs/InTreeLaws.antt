@@ -1,11 +1,12 @@
 -- The centres in the tree, listed by their flags: setting a flag adds that centre (inTree-set), and where exactly the first n flags are
 -- set, they are the first n centres (inTree-all).
 use Prim.Native.Nat.{ℕ, zero, suc, _+_, _<_, _≤_}
-use mathlib.Core.Path.{_≡_, refl, sym, ap, _∙_}
-use mathlib.Core.List.{List, [], _∷_, List·Permᴰ, List·Permᴰ·nil, List·Permᴰ·cons, List·Permᴰ·swap, List·Permᴰ·trans, Permᴰ·refl}
+use mathlib.Core.Path.{_≡_, refl, sym, ap}
+use mathlib.Core.List.{List, [], _∷_, List·Permᴰ, List·Permᴰ·cons, List·Permᴰ·swap, List·Permᴰ·trans, Permᴰ·refl}
 use native.Mathlib.Omega.{arith}
 use lib.ListN.{length, getD, set}
 use Rattle.sums.specs.Lists.{from}
+use Rattle.sums.proofs.PermLaws.{perm-length}
 
 -- the numbers, from b upward, whose flag is not 0
 unfoldable pub inTree : ℕ → List ℕ → List ℕ
@@ -43,12 +44,6 @@ unfolding inTree
 inTree-few b [] = omega arith
 inTree-few b (zero ∷ flags) = omega (arith, inTree-few (suc b) flags)
 inTree-few b (suc f ∷ flags) = omega (arith, inTree-few (suc b) flags)
-
-perm-length : {xs ys : List ℕ} → List·Permᴰ xs ys → length xs ≡ length ys
-perm-length List·Permᴰ·nil = refl
-perm-length (List·Permᴰ·cons e p) = ap suc (perm-length p)
-perm-length (List·Permᴰ·swap e d) = refl
-perm-length (List·Permᴰ·trans p q) = perm-length p ∙ perm-length q
 
 pub inTree-more : (b : ℕ) (flags : List ℕ) (i : ℕ) → i < length flags → getD flags i 0 ≡ 0 → length (inTree b (set flags i 1)) ≡ suc (length (inTree b flags))
 inTree-more b flags i h e = sym (perm-length (inTree-set b flags i h e))

@@ -21,7 +21,7 @@ skip-is (suc n) (x ∷ xs) at m h = skip-is n xs (suc at) m (omega arith) ∙ ap
 
 -- the place after the record at a place
 abbrev pub next : List ℕ → ℕ → ℕ
-next file at = at + 1 + bodyLength (getD file at 0)
+next file at = at + (1 + bodyLength (getD file at 0))
 
 module _ (file : List ℕ) (at : ℕ) (m : Model) (h : at < length file) where
   pub record-inside : readRecord (drop at file) at m .step ≡ Step.More → next file at ≤ length file
@@ -51,6 +51,6 @@ module _ (file : List ℕ) (at : ℕ) (m : Model) (h : at < length file) where
       by r (Outcome.ends d l) = refl
       by r (Outcome.stops w p) = refl
 
-pub read-over : (file : List ℕ) (at : ℕ) (m : Model) → at ≡ length file → readFrom (drop at file) 0 at m ≡ refused 1 (length file) m
+pub read-over : (file : List ℕ) (at : ℕ) (m : Model) → length file ≤ at → readFrom (drop at file) 0 at m ≡ refused 1 at m
 unfolding readFrom
-read-over file at m e = rw (drop-of-length-le file {i = at} (omega arith), e)
+read-over file at m h = rw (drop-of-length-le file {i = at} h)

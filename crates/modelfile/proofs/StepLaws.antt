@@ -77,6 +77,10 @@ module _ (m : Model) (kind : ℕ) where
           let n = positive _ r in
           one-of 4 (5 ∷ 6 ∷ []) (Due.leaf s w) (one-of 5 (6 ∷ []) (Due.join s w n) (one-of 6 [] (Due.end s w n) none-of))
 
+-- a window is due only while one is missing
+pub window-missing : {m : Model} → Due m 2 → m .given < m .chains
+window-missing (Due.window s w) = w
+
 -- ---- the steps, and all outcomes
 
 -- from the place and model of a record to those of the next

@@ -2,15 +2,15 @@
 -- out stays so where no cell of the subtree changes; and a cell's number lies within its subtree.
 use Prim.Native.Nat.{ℕ, zero, suc, _+_, _*_, _≤_, _<_}
 use mathlib.Core.Path.{_≡_, refl, sym, ap, subst, _∙_}
-use mathlib.Core.List.{List, [], _∷_, _++_, map, append-assoc}
+use mathlib.Core.List.{List, [], _∷_, _++_, map, zipWith, append-assoc}
 use mathlib.Core.Logic.{_⊎_, inl, inr}
 use native.Mathlib.Omega.{arith}
-use native.Mathlib.Nat.{add-assoc, add-zero}
+use native.Mathlib.Nat.{le-refl, mul-le-mul}
 use lib.ListN.{length, getD, length-append, length-map, List·getD-append}
 use lib.Seq.{getD-append-add}
 use Rattle.network.specs.Centre.{Route}
-use Rattle.network.specs.Coverage.{Tree, leaf, join}
-use Rattle.network.specs.Cells.{indices, cells, place, spansAt, allCells, base, cellOf, spread}
+use Rattle.network.specs.Coverage.{Coverage, finished, partial, absent, Tree, leaf, join, coverages}
+use Rattle.network.specs.Cells.{span, size, indices, cells, place, spansAt, allCells, base, cellOf, spread}
 use Rattle.network.proofs.CellLaws.{Inside, place-lt, length-indices, cells-pos, array-at}
 
 module _ (routes : List Route) (windows : List ℕ) where
@@ -102,3 +102,24 @@ module _ (routes : List Route) (windows : List ℕ) where
         subst (λ A. (v : List ℕ) → Inside (spansAt routes windows (join l r)) v → getD A (start + (allCells routes windows l + allCells routes windows r) + place (spansAt routes windows (join l r)) v) 0 ≡ f (join l r) v) z
             (λ v i. array-in (f (join l r)) (join l r) ((pre ++ L) ++ R) post v (start + (allCells routes windows l + allCells routes windows r)) d i),
       )
+
+-- ---- fewer messages, no more cells
+
+sizes-rise : (cs : List Coverage) (ns ms : List ℕ) → length ns ≡ length ms → ((k : ℕ) → getD ns k 0 ≤ getD ms k 0) → cells (zipWith span cs ns) ≤ cells (zipWith span cs ms)
+unfolding zipWith cells span size
+sizes-rise [] ns ms e f = le-refl 1
+sizes-rise (c ∷ cs) [] [] e f = le-refl 1
+sizes-rise (c ∷ cs) [] (m ∷ ms) e f = absurd (omega arith)
+sizes-rise (c ∷ cs) (n ∷ ns) [] e f = absurd (omega arith)
+sizes-rise (finished ∷ cs) (n ∷ ns) (m ∷ ms) e f = mul-le-mul (le-refl 1) (sizes-rise cs ns ms (omega arith) (λ k. f (suc k)))
+sizes-rise (partial ∷ cs) (n ∷ ns) (m ∷ ms) e f = let h : suc n ≤ suc m = omega (arith, f 0) in mul-le-mul h (sizes-rise cs ns ms (omega arith) (λ k. f (suc k)))
+sizes-rise (absent ∷ cs) (n ∷ ns) (m ∷ ms) e f = mul-le-mul (le-refl 1) (sizes-rise cs ns ms (omega arith) (λ k. f (suc k)))
+
+own-rise : (routes : List Route) (ns ms : List ℕ) → length ns ≡ length ms → ((k : ℕ) → getD ns k 0 ≤ getD ms k 0) → (t : Tree) → cells (spansAt routes ns t) ≤ cells (spansAt routes ms t)
+unfolding spansAt
+own-rise routes ns ms e f t = subst (λ n. cells (zipWith span (coverages routes n t) ns) ≤ cells (zipWith span (coverages routes (length ms) t) ms)) (sym e) (sizes-rise (coverages routes (length ms) t) ns ms e f)
+
+pub cells-rise : (routes : List Route) (ns ms : List ℕ) → length ns ≡ length ms → ((k : ℕ) → getD ns k 0 ≤ getD ms k 0) → (t : Tree) → allCells routes ns t ≤ allCells routes ms t
+unfolding allCells
+cells-rise routes ns ms e f (leaf c) = own-rise routes ns ms e f (leaf c)
+cells-rise routes ns ms e f (join l r) = omega (arith, cells-rise routes ns ms e f l, cells-rise routes ns ms e f r, own-rise routes ns ms e f (join l r))

@@ -20,7 +20,7 @@ use Rattle.modelfile.specs.declared.Model.{Model}
 use Rattle.modelfile.proofs.TreeLaws.{allUnder}
 use Rattle.modelfile.proofs.Guaranteed.{Guaranteed}
 use Rattle.calls.proofs.FileLaws.{length-routes}
-use Rattle.plan.specs.Table.{row, countsAt, totalsOf, pairsAt, entry, entries, runWindows, routesIn, Tabled}
+use Rattle.plan.specs.Table.{row, countsAt, totalsOf, pairsAt, entry, entries, windowsIn, routesIn, Tabled}
 use Rattle.plan.specs.Steps.{Few, Small, countBy, noNode, rightOf, leftOf, shapeBy, pairsBy, nodeLeaf, nodeJoined, nodeMade, withNode, emptyTable, Ready, Room}
 use Rattle.plan.specs.declared.Chains.{Chains}
 use Rattle.plan.specs.declared.Node.{Node}
@@ -63,21 +63,21 @@ pub record Standing (m : Model) (windows : List ℕ) (t : Table) (S : List Tree)
   pub long : length (t .nodes) ≡ 31
   pub count-is : t .count ≡ nodesOf S
   pub few : t .count ≤ 31
-  pub totals-are : t .totals ≡ totalsOf (routesIn m) (runWindows m windows)
-  pub nodes-are : take (t .count) (t .nodes) ≡ forest (routesIn m) (runWindows m windows) S
-  pub cells-are : t .cells ≡ forestCells (routesIn m) (runWindows m windows) S
-  pub pairs-are : t .pairs ≡ forestPairs (routesIn m) (runWindows m windows) S
+  pub totals-are : t .totals ≡ totalsOf (routesIn m) (windowsIn m windows)
+  pub nodes-are : take (t .count) (t .nodes) ≡ forest (routesIn m) (windowsIn m windows) S
+  pub cells-are : t .cells ≡ forestCells (routesIn m) (windowsIn m windows) S
+  pub pairs-are : t .pairs ≡ forestPairs (routesIn m) (windowsIn m windows) S
 
 -- the next entry is that of the next subtree, which makes T of S
 record Follows (m : Model) (windows : List ℕ) (t : Table) (x : ℕ) (e : Node) (S T : List Tree) : Type 0 where
   top : Tree
   start : ℕ
   ready : Ready t x
-  made : e ≡ entry (routesIn m) (runWindows m windows) top start
+  made : e ≡ entry (routesIn m) (windowsIn m windows) top start
   count-more : nodesOf T ≡ nodesOf S + 1
-  nodes-more : forest (routesIn m) (runWindows m windows) T ≡ forest (routesIn m) (runWindows m windows) S ++ (entry (routesIn m) (runWindows m windows) top start ∷ [])
-  cells-more : forestCells (routesIn m) (runWindows m windows) T ≡ forestCells (routesIn m) (runWindows m windows) S + cells (spansAt (routesIn m) (runWindows m windows) top)
-  pairs-more : forestPairs (routesIn m) (runWindows m windows) T ≡ forestPairs (routesIn m) (runWindows m windows) S + pairsAt (routesIn m) (runWindows m windows) top
+  nodes-more : forest (routesIn m) (windowsIn m windows) T ≡ forest (routesIn m) (windowsIn m windows) S ++ (entry (routesIn m) (windowsIn m windows) top start ∷ [])
+  cells-more : forestCells (routesIn m) (windowsIn m windows) T ≡ forestCells (routesIn m) (windowsIn m windows) S + cells (spansAt (routesIn m) (windowsIn m windows) top)
+  pairs-more : forestPairs (routesIn m) (windowsIn m windows) T ≡ forestPairs (routesIn m) (windowsIn m windows) S + pairsAt (routesIn m) (windowsIn m windows) top
 
 standing-more : {m : Model} {windows : List ℕ} (t : Table) {x : ℕ} (e : Node) {S T : List Tree} → Standing m windows t S → Follows m windows t x e S T → t .count < 31 → Standing m windows (withNode t e) T
 unfolding withNode entry
@@ -97,15 +97,15 @@ standing-more {m} {windows} t e {S} s f h =
     }
 
 module _ (m : Model) (g : Guaranteed m) (windows : List ℕ) (long : length windows ≡ 8) where
-  windows-count : length (runWindows m windows) ≡ m .chains
+  windows-count : length (windowsIn m windows) ≡ m .chains
   windows-count = length-take-le (m .chains) windows (omega (arith, g .chains-range .1))
 
-  entry-small : (t : Tree) (b : ℕ) → nodesIn t ≤ 31 → Small (entry (routesIn m) (runWindows m windows) t b)
+  entry-small : (t : Tree) (b : ℕ) → nodesIn t ≤ 31 → Small (entry (routesIn m) (windowsIn m windows) t b)
   unfolding entry countsAt
   entry-small t b h =
       record {
         short = h;
-        low = row-few _ 31 (λ k. omega (arith, those-few (visits (routesIn m) (suc k)) (under t), nodes-under t)) (length (runWindows m windows));
+        low = row-few _ 31 (λ k. omega (arith, those-few (visits (routesIn m) (suc k)) (under t), nodes-under t)) (length (windowsIn m windows));
       }
 
   -- a join's children in the table
@@ -114,24 +114,24 @@ module _ (m : Model) (g : Guaranteed m) (windows : List ℕ) (long : length wind
     unfolding nodesOf
     children-some = omega (arith, s .count-is, nodes-under l)
 
-    children-right : rightOf t ≡ entry (routesIn m) (runWindows m windows) r (forestCells (routesIn m) (runWindows m windows) (l ∷ S))
+    children-right : rightOf t ≡ entry (routesIn m) (windowsIn m windows) r (forestCells (routesIn m) (windowsIn m windows) (l ∷ S))
     unfolding rightOf
     children-right =
         sym (getD-take (t .count) (t .nodes) (t .count - 1) noNode (omega (arith, children-some)))
         ∙ ap (λ es. getD es (t .count - 1) noNode) (s .nodes-are)
-        ∙ right-found (routesIn m) (runWindows m windows) l r S (t .count) (s .count-is)
+        ∙ right-found (routesIn m) (windowsIn m windows) l r S (t .count) (s .count-is)
 
     right-span : rightOf t .span ≡ nodesIn r
     unfolding entry
     right-span = ap (λ (e : Node). e .span) children-right
 
-    children-left : leftOf t ≡ entry (routesIn m) (runWindows m windows) l (forestCells (routesIn m) (runWindows m windows) S)
+    children-left : leftOf t ≡ entry (routesIn m) (windowsIn m windows) l (forestCells (routesIn m) (windowsIn m windows) S)
     unfolding leftOf
     children-left =
         ap (λ n. getD (t .nodes) (t .count - 1 - n) noNode) right-span
         ∙ sym (getD-take (t .count) (t .nodes) (t .count - 1 - nodesIn r) noNode (omega (arith, children-some)))
         ∙ ap (λ es. getD es (t .count - 1 - nodesIn r) noNode) (s .nodes-are)
-        ∙ left-found (routesIn m) (runWindows m windows) l r S (t .count) (s .count-is)
+        ∙ left-found (routesIn m) (windowsIn m windows) l r S (t .count) (s .count-is)
 
     join-ready : Ready t 0
     unfolding nodesOf
@@ -144,11 +144,11 @@ module _ (m : Model) (g : Guaranteed m) (windows : List ℕ) (long : length wind
           right-small = λ z. subst Small (sym children-right) (entry-small r _ (omega (arith, s .count-is, s .few)));
         }
 
-  module _ (ch : Chains) (ec : ch .count ≡ m .chains) (ew : ch .windows ≡ windows) (et : ch .totals ≡ totalsOf (routesIn m) (runWindows m windows)) where
-    count-is : ch .count ≡ length (runWindows m windows)
+  module _ (ch : Chains) (ec : ch .count ≡ m .chains) (ew : ch .windows ≡ windows) (et : ch .totals ≡ totalsOf (routesIn m) (windowsIn m windows)) where
+    count-is : ch .count ≡ length (windowsIn m windows)
     count-is = ec ∙ sym windows-count
 
-    windows-are : map (λ i. getD (ch .windows) i 0) (from 0 (length (runWindows m windows))) ≡ runWindows m windows
+    windows-are : map (λ i. getD (ch .windows) i 0) (from 0 (length (windowsIn m windows))) ≡ windowsIn m windows
     windows-are = rw (ew, windows-count) (take-is windows (m .chains) (omega (arith, g .chains-range .1)))
 
     -- the centres under the latest subtree, and all others
@@ -164,11 +164,11 @@ module _ (m : Model) (g : Guaranteed m) (windows : List ℕ) (long : length wind
         let high : suc c ≤ length (routesIn m) = omega (arith, b .1) in
         record {
           top = leaf (suc c);
-          start = forestCells (routesIn m) (runWindows m windows) S;
+          start = forestCells (routesIn m) (windowsIn m windows) S;
           ready = record { few = s .few; leaf-range = omega (arith, length-routes m g, g .centres-range .1); found = λ z. absurd (omega arith); left-small = λ z. absurd (omega arith); right-small = λ z. absurd (omega arith) };
           made =
-              leaf-entry (routesIn m) (runWindows m windows) ch count-is et windows-are (m .loads) (λ k d h. loads-agree m g k d (omega (arith, windows-count))) (suc c) (t .cells) (omega arith) high (allUnder S ++ rest) p
-              ∙ ap (entry (routesIn m) (runWindows m windows) (leaf (suc c))) (s .cells-are);
+              leaf-entry (routesIn m) (windowsIn m windows) ch count-is et windows-are (m .loads) (λ k d h. loads-agree m g k d (omega (arith, windows-count))) (suc c) (t .cells) (omega arith) high (allUnder S ++ rest) p
+              ∙ ap (entry (routesIn m) (windowsIn m windows) (leaf (suc c))) (s .cells-are);
           count-more = refl;
           nodes-more = refl;
           cells-more = refl;
@@ -176,7 +176,7 @@ module _ (m : Model) (g : Guaranteed m) (windows : List ℕ) (long : length wind
         }
     follows {T = T} t rest (Next.closed {S} l r) s e =
         let R = routesIn m in
-        let N = runWindows m windows in
+        let N = windowsIn m windows in
         let right = children-right t l r S s in
         let left = children-left t l r S s in
         record {
@@ -226,10 +226,10 @@ module _ (m : Model) (g : Guaranteed m) (windows : List ℕ) (long : length wind
         pairs-low = omega arith;
       }
     where
-      rows : row (m .chains) (λ k. countBy (m .loads) k (from 1 (m .centres))) ≡ totalsOf (routesIn m) (runWindows m windows)
+      rows : row (m .chains) (λ k. countBy (m .loads) k (from 1 (m .centres))) ≡ totalsOf (routesIn m) (windowsIn m windows)
       rows =
           (λ i. row (sym (windows-count m g windows long) i) (λ k. countBy (m .loads) k (from 1 (sym (length-routes m g) i))))
-          ∙ totals-are (routesIn m) (runWindows m windows) (m .loads) (λ k c h. loads-agree m g k c (omega (arith, windows-count m g windows long)))
+          ∙ totals-are (routesIn m) (windowsIn m windows) (m .loads) (λ k c h. loads-agree m g k c (omega (arith, windows-count m g windows long)))
 
   pub grown-last : (t : Table) (i : ℕ) → Grown m windows t i → m .count ≤ i → Tabled m windows t
   unfolding stack forest forestCells forestPairs nodesOf
@@ -238,11 +238,11 @@ module _ (m : Model) (g : Guaranteed m) (windows : List ℕ) (long : length wind
       let e : stack (nodesGiven m) i ≡ treeOf m ∷ [] = ap (subtrees []) (take-all i (nodesGiven m) (omega (arith, given-count))) ∙ g .one-tree in
       record {
         nodes-long = s .long;
-        nodes-are = s .nodes-are ∙ ap (forest (routesIn m) (runWindows m windows)) e;
+        nodes-are = s .nodes-are ∙ ap (forest (routesIn m) (windowsIn m windows)) e;
         count-is = s .count-is ∙ ap nodesOf e ∙ omega (arith, tree-count m g, given-count);
         totals-are = s .totals-are;
-        cells-are = s .cells-are ∙ ap (forestCells (routesIn m) (runWindows m windows)) e ∙ omega arith;
-        pairs-are = s .pairs-are ∙ ap (forestPairs (routesIn m) (runWindows m windows)) e ∙ omega arith;
+        cells-are = s .cells-are ∙ ap (forestCells (routesIn m) (windowsIn m windows)) e ∙ omega arith;
+        pairs-are = s .pairs-are ∙ ap (forestPairs (routesIn m) (windowsIn m windows)) e ∙ omega arith;
       }
 
   module _ (ch : Chains) (ec : ch .count ≡ m .chains) (ew : ch .windows ≡ windows) (few : Few ch) (t : Table) (i : ℕ) (w : Grown m windows t i) (h : i < m .count) (et : ch .totals ≡ t .totals) where

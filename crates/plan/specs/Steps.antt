@@ -22,7 +22,7 @@ covering Cover.Finished = finished
 covering Cover.Partial = partial
 covering Cover.Absent = absent
 
--- the windows are those of the scope, and there are as many arrays' entries as declared
+-- at most 8 chains, with windows of at most 15
 pub record Few (ch : Chains) : Type 0 where
   pub chains-few : ch .count ≤ 8
   pub totals-long : length (ch .totals) ≡ 8

@@ -22,6 +22,7 @@ padded chains xs = xs ++ replicate (8 - chains) 0
 abbrev pub row : ℕ → (ℕ → ℕ) → List ℕ
 row chains f = padded chains (map f (from 0 chains))
 
+-- a leaf's centre; 0 for a join
 unfoldable pub centreAt : Tree → ℕ
 centreAt (leaf c) = c
 centreAt (join l r) = 0
@@ -52,22 +53,25 @@ module _ (routes : List Route) (windows : List ℕ) where
         pairs = pairsAt t;
       }
 
+  -- the entries of a node's subtree, in postorder
   unfoldable pub entries : Tree → ℕ → List Node
   entries (leaf c) start = entry (leaf c) start ∷ []
   entries (join l r) start = entries l start ++ (entries r (start + allCells routes windows l) ++ (entry (join l r) start ∷ []))
 
 -- ---- of a model, under the windows of a run
 
-abbrev pub runWindows : Model → List ℕ → List ℕ
-runWindows m windows = take (m .chains) windows
+-- the first entries of the array of windows are the run's
+abbrev pub windowsIn : Model → List ℕ → List ℕ
+windowsIn m windows = take (m .chains) windows
 
 abbrev pub routesIn : Model → List Route
 routesIn m = routesOf (centresOf m)
 
+-- t is the model's table: its first nodes are the tree's
 pub record Tabled (m : Model) (windows : List ℕ) (t : Table) : Type 0 where
   pub nodes-long : length (t .nodes) ≡ 31
-  pub nodes-are : take (t .count) (t .nodes) ≡ entries (routesIn m) (runWindows m windows) (treeOf m) 0
+  pub nodes-are : take (t .count) (t .nodes) ≡ entries (routesIn m) (windowsIn m windows) (treeOf m) 0
   pub count-is : t .count ≡ m .count
-  pub totals-are : t .totals ≡ totalsOf (routesIn m) (runWindows m windows)
-  pub cells-are : t .cells ≡ allCells (routesIn m) (runWindows m windows) (treeOf m)
-  pub pairs-are : t .pairs ≡ allPairs (routesIn m) (runWindows m windows) (treeOf m)
+  pub totals-are : t .totals ≡ totalsOf (routesIn m) (windowsIn m windows)
+  pub cells-are : t .cells ≡ allCells (routesIn m) (windowsIn m windows) (treeOf m)
+  pub pairs-are : t .pairs ≡ allPairs (routesIn m) (windowsIn m windows) (treeOf m)

@@ -1,25 +1,22 @@
--- Which kinds are due: what the definition says at each `return` of the code; and what a due kind shows of the model.
+-- Which kinds are due: what the definition says at each `return` of the code; and that a window that is due has room.
 use Prim.Native.Nat.{ℕ, zero, suc, _<_, _≤_}
-use mathlib.Core.Path.{_≡_, refl, sym, ap, _∙_}
-use mathlib.Core.Bool.{Bool, true, false, not, _||_, true≢false}
-use mathlib.Core.List.{List, [], _∷_}
+use mathlib.Core.Path.{_≡_, refl, sym, _∙_}
+use mathlib.Core.Bool.{Bool, true, false, not, or-false}
+use mathlib.Core.List.{[], _∷_}
 use native.Mathlib.Omega.{arith}
-use lib.Dec.{ltb, leb, eqb}
+use lib.Dec.{leb, eqb}
 use lib.ListN.{getD}
-use borrow.Author.Tests.{lt-ltb, le-ltb, lt-leb, eq-eqb, ne-eqb, ltb-true, not-false}
+use borrow.Author.Tests.{lt-ltb, le-ltb, lt-leb, eq-eqb, ne-eqb, not-false}
 use Rattle.sums.specs.Lists.{some}
-use Rattle.modelfile.specs.Records.{pickKinds, due, bodyLength}
+use Rattle.modelfile.specs.Records.{due, bodyLength}
 use Rattle.modelfile.specs.declared.Model.{Model}
-use Rattle.reader.specs.Sound.{Sound}
+use Rattle.modelfile.proofs.StepLaws.{due-is, window-missing}
+use Rattle.modelfile.proofs.SoundLaws.{Sound, window-room}
 
 -- one kind, and the three of the tree, as tests of numbers
 one-kind : (kind k : ℕ) → eqb kind k ≡ some (eqb kind) (k ∷ [])
 unfolding some
-one-kind kind k = by (eqb kind k)
-  where
-    by : (b : Bool) → b ≡ (b || false)
-    by true = refl
-    by false = refl
+one-kind kind k = sym (or-false (eqb kind k))
 
 high-kinds : (kind : ℕ) → 6 < kind → leb kind 6 ≡ some (eqb kind) (4 ∷ 5 ∷ 6 ∷ [])
 unfolding some
@@ -72,24 +69,9 @@ module _ (m : Model) (kind : ℕ) where
         unfolding due
         due-tree k = rw (ne-eqb _ _ a, le-ltb _ _ b, ne-eqb _ _ h) (tree-kinds kind k)
 
--- a window is due only while one is missing
-window-missing : (m : Model) → some (eqb 2) (due m) ≡ true → m .given < m .chains
-unfolding due some
-window-missing m e = by (eqb (m .centres) 0) (ltb (m .given) (m .chains)) (eqb (m .count) 0) refl e
-  where
-    kinds : Bool → Bool → Bool → List ℕ
-    kinds a b c = pickKinds a (1 ∷ []) (pickKinds b (2 ∷ []) (pickKinds c (3 ∷ 4 ∷ []) (4 ∷ 5 ∷ 6 ∷ [])))
-
-    by : (a b c : Bool) → ltb (m .given) (m .chains) ≡ b → some (eqb 2) (kinds a b c) ≡ true → m .given < m .chains
-    by true b c h f = absurd (true≢false (sym f))
-    by false true c h f = ltb-true _ _ h
-    by false false true h f = absurd (true≢false (sym f))
-    by false false false h f = absurd (true≢false (sym f))
-
-pub window-room : (m : Model) {kind : ℕ} {u : Bool} → Sound m → u ≡ some (eqb kind) (due m) → not u ≡ false → kind ≡ 2 → m .given < 8
-window-room m {kind} {u} s d y k =
-    let g : m .given < m .chains = window-missing m (ap (λ k. some (eqb k) (due m)) (sym k) ∙ sym d ∙ not-false u y) in
-    omega (arith, s .chains-few)
+-- a window that is due has room
+pub window-fits : (m : Model) {kind : ℕ} {u : Bool} → Sound m → u ≡ some (eqb kind) (due m) → not u ≡ false → kind ≡ 2 → m .given < 8
+window-fits m {kind} s d y k = window-room m s (window-missing (rw k at (due-is m kind (sym d ∙ not-false _ y))))
 
 -- no body has more than four bytes
 pub body-few : (kind : ℕ) → bodyLength kind ≤ 4

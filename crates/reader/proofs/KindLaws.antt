@@ -11,7 +11,7 @@ use Rattle.sums.specs.Lists.{some}
 use Rattle.modelfile.specs.Records.{refuse, bodyLength, due, readSize, readWindow, readLoad, readLeaf, readJoin, readEnd, readBody, readRecord}
 use Rattle.modelfile.specs.declared.Model.{Model}
 use Rattle.modelfile.specs.declared.Stepped.{Stepped}
-use Rattle.reader.specs.Sound.{Holds}
+use Rattle.reader.specs.Bytes.{Holds}
 
 -- the bytes of a record that is there
 module _ {rest : List ℕ} {at b kind : ℕ} (h : Holds 1 rest at) (f : b ≡ bodyLength kind) (l : b < length rest) where

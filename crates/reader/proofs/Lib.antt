@@ -1,10 +1,6 @@
-pub mod SomeLaws
 pub mod NumberLaws
 pub mod FieldLaws
 pub mod NodeLaws
 pub mod DueLaws
 pub mod KindLaws
-pub mod RoomLaws
-pub mod KeptLaws
 pub mod FileLaws
-pub mod PartLaws

@@ -1,21 +1,28 @@
 -- The records of the tree, kinds 4 to 6: what their definitions say at each `return` of the code, in plain values.
 -- Each law rewrites by the tests that led to that `return`.
 use Prim.Native.Nat.{ℕ, _+_, _-_, _<_, _≤_}
-use mathlib.Core.Path.{_≡_}
+use mathlib.Core.Path.{_≡_, sym, _∙_}
 use mathlib.Core.Bool.{Bool, true, false, not, _&&_}
 use mathlib.Core.List.{List}
+use native.Mathlib.Omega.{arith}
 use lib.Dec.{eqb}
 use lib.ListN.{length, getD}
-use borrow.Author.Tests.{lt-ltb, le-ltb, eq-eqb, ne-eqb}
+use borrow.Author.Tests.{lt-ltb, le-ltb, eq-eqb, ne-eqb, eqb-true, not-false}
 use Rattle.modelfile.specs.Model.{withLeaf, withJoin}
 use Rattle.modelfile.specs.Records.{more, refuse, chainWithoutCentre, centreMissing, readLeaf, readJoin, readEnd}
 use Rattle.modelfile.specs.declared.Model.{Model}
 use Rattle.modelfile.specs.declared.Step.{Step}
 use Rattle.modelfile.specs.declared.Stepped.{Stepped}
+use Rattle.modelfile.proofs.SoundLaws.{Sound, leaf-room}
 use Rattle.reader.specs.Numbers.{centreOf}
 use Rattle.reader.specs.declared.numbers.Centre.{Centre}
 use Rattle.reader.specs.declared.numbers.CentreOr.{CentreOr}
-use Rattle.reader.proofs.NumberLaws.{centre-out, centre-in, centre-is}
+use Rattle.reader.proofs.NumberLaws.{centre-out, centre-in, centre-is, centre-within}
+
+-- a centre that is not in the tree yet leaves room for one node more
+pub leaf-fits : (rest : List ℕ) (m : Model) {x : CentreOr} {c : Centre} {v : Bool} → Sound m → x ≡ centreOf (getD rest 1 0) (m .centres) → x ≡ CentreOr.IsCentre c
+    → v ≡ not (eqb (getD (m .placed) (c .n - 1) 0) 0) → v ≡ false → m .count + m .trees ≤ 30
+leaf-fits rest m {c = c} s e f i j = leaf-room m s (c .n) (centre-within _ _ e f (omega arith)) (eqb-true _ _ (not-false _ (sym i ∙ j)))
 
 module _ (rest : List ℕ) (at : ℕ) (m : Model) {r : Stepped} where
   -- kind 4

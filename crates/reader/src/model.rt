@@ -8,7 +8,7 @@ ghost use Rattle.sums.specs.Lists.{from, some};
 ghost use Rattle.modelfile.specs.Ends.{lastCentre, lastChain};
 ghost use Rattle.modelfile.specs.Model.{emptyModel, withSize, withWindow, slot, withLoad, firstPlace, withLeaf, withJoin};
 ghost use Rattle.modelfile.specs.Records.{loaded, chainWithoutCentre, centreMissing};
-ghost use Rattle.reader.specs.Sound.{Within};
+ghost use Rattle.modelfile.proofs.StepLaws.{Within};
 use crate::numbers::Centre;
 use crate::numbers::Chain;
 use modelfile::Model;
@@ -52,14 +52,14 @@ pub fn with_window(m: Model, window: usize) -> Model
 }
 
 pub fn slot_of(centre: Centre, chain: Chain) -> usize
-    requires { ⌜ Within lastCentre (centre .n) × Within lastChain (chain .n) ⌝ }
-    ensures { λ r. ⌜ (r ≡ slot (centre .n) (chain .n)) × (r < 128) ⌝ }
+    requires { ⌜ Within 1 lastCentre (centre .n) × Within 1 lastChain (chain .n) ⌝ }
+    ensures { λ r. ⌜ r ≡ slot (centre .n) (chain .n) ⌝ }
 {
     (centre.n - Centre::FIRST) * Chain::LAST + (chain.n - Chain::FIRST)
 }
 
 pub fn with_load(m: Model, centre: Centre, chain: Chain, load: usize) -> Model
-    requires { ⌜ Within lastCentre (centre .n) × Within lastChain (chain .n) ⌝ }
+    requires { ⌜ Within 1 lastCentre (centre .n) × Within 1 lastChain (chain .n) ⌝ }
     ensures { λ r. ⌜ r ≡ withLoad m (centre .n) (chain .n) load ⌝ }
 {
     let mut next = m;
@@ -79,7 +79,7 @@ fn first_place(count: usize, at: usize, first: usize) -> usize
 }
 
 pub fn with_leaf(m: Model, at: usize, centre: Centre) -> Model
-    requires { ⌜ Within lastCentre (centre .n) × ((m .count < 31) × (m .trees < 31)) ⌝ }
+    requires { ⌜ Within 1 lastCentre (centre .n) × (m .count + m .trees ≤ 30) ⌝ }
     ensures { λ r. ⌜ r ≡ withLeaf m at (centre .n) ⌝ }
 {
     let mut next = m;
@@ -93,7 +93,7 @@ pub fn with_leaf(m: Model, at: usize, centre: Centre) -> Model
 }
 
 pub fn with_join(m: Model) -> Model
-    requires { ⌜ (m .count < 31) × (1 ≤ m .trees) ⌝ }
+    requires { ⌜ (m .count ≤ 30) × (2 ≤ m .trees) ⌝ }
     ensures { λ r. ⌜ r ≡ withJoin m ⌝ }
 {
     let mut next = m;
@@ -142,7 +142,7 @@ pub fn first_leaf_fails(m: Model) -> bool
 }
 
 pub fn is_placed(m: Model, centre: Centre) -> bool
-    requires { ⌜ Within lastCentre (centre .n) ⌝ }
+    requires { ⌜ Within 1 lastCentre (centre .n) ⌝ }
     ensures { λ r. ⌜ r ≡ not (eqb (getD (m .placed) (centre .n - 1) 0) 0) ⌝ }
 {
     let i = centre.n - Centre::FIRST;

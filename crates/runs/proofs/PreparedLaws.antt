@@ -24,7 +24,7 @@ use Rattle.calls.specs.Asked.{cellsIn, filledBy}
 use Rattle.calls.proofs.FileLaws.{length-routes, length-loads, take-low}
 use Rattle.weights.specs.Leaf.{lowest, highest, LeafEnds}
 use Rattle.weights.proofs.SpanLaws.{leaf-ends}
-use Rattle.plan.specs.Table.{centreAt, countsAt, totalsOf, entry, runWindows, routesIn}
+use Rattle.plan.specs.Table.{centreAt, countsAt, totalsOf, entry, windowsIn, routesIn}
 use Rattle.plan.specs.Steps.{Few, spansBy, noNode}
 use Rattle.plan.specs.Asking.{Prepared}
 use Rattle.plan.specs.declared.Chains.{Chains}
@@ -52,7 +52,7 @@ all-zero (x ∷ xs) = ap (λ l. 0 ∷ l) (all-zero xs)
 
 module _ (m : Model) (windows : List ℕ) (t : Table) (p : Prepared m windows t) where
   abbrev ws : List ℕ
-  ws = runWindows m windows
+  ws = windowsIn m windows
 
   abbrev routes : List Route
   routes = routesIn m

@@ -12,7 +12,7 @@ use Rattle.modelfile.specs.Network.{centresOf, treeOf}
 use Rattle.modelfile.specs.declared.Model.{Model}
 use Rattle.calls.specs.Asked.{cellsIn, filledBy}
 use Rattle.calls.specs.Start.{tooLarge}
-use Rattle.plan.specs.Table.{runWindows, routesIn}
+use Rattle.plan.specs.Table.{windowsIn, routesIn}
 use Rattle.plan.specs.Steps.{noNode}
 use Rattle.plan.specs.Asking.{Prepared}
 use Rattle.plan.specs.declared.Chains.{Chains}
@@ -55,18 +55,18 @@ module _ (m : Model) (windows : List ℕ) (t : Table) (p : Prepared m windows t)
   cellsOf = nodeCells (m .loads) ch
 
   abbrev whole : List ℕ
-  whole = filledBy m (runWindows m windows)
+  whole = filledBy m (windowsIn m windows)
 
-  length-whole : length whole ≡ cellsIn m (runWindows m windows)
+  length-whole : length whole ≡ cellsIn m (windowsIn m windows)
   unfolding filled
-  length-whole = length-spread (routesIn m) (runWindows m windows) (startCell (centresOf m)) (treeOf m)
+  length-whole = length-spread (routesIn m) (windowsIn m windows) (startCell (centresOf m)) (treeOf m)
 
   pub passed-last : {i : ℕ} → Passed (m .loads) ch t i → t .count ≤ i → false ≡ some tooLarge whole
   passed-last {i} w h =
       let e : i ≡ t .count = omega (arith, w .low) in
       sym (ap (some tooLarge) (sym (filled-is m windows t p)) ∙ ap (λ n. some tooLarge (firstCells (m .loads) ch t n)) (sym e) ∙ w .none)
 
-  pub written-last : {old now : List ℕ} {i : ℕ} → Written (m .loads) ch t old now i → t .count ≤ i → now ≡ whole ++ drop (cellsIn m (runWindows m windows)) old
+  pub written-last : {old now : List ℕ} {i : ℕ} → Written (m .loads) ch t old now i → t .count ≤ i → now ≡ whole ++ drop (cellsIn m (windowsIn m windows)) old
   written-last {old} {now} {i} w h =
       let e : i ≡ t .count = omega (arith, w .low) in
       let f = ap (firstCells (m .loads) ch t) e ∙ filled-is m windows t p in
@@ -85,7 +85,7 @@ module _ (m : Model) (windows : List ℕ) (t : Table) (p : Prepared m windows t)
     pub next-low : some tooLarge whole ≡ false → some tooLarge (cellsOf (nodeAt t i)) ≡ false
     next-low e = none-at cellsOf (t .nodes) noNode tooLarge (t .count) i (count-low m windows t p) h (ap (some tooLarge) (filled-is m windows t p) ∙ e)
 
-    module _ {old now : List ℕ} (w : Written (m .loads) ch t old now i) (room : cellsIn m (runWindows m windows) ≤ length old) where
+    module _ {old now : List ℕ} (w : Written (m .loads) ch t old now i) (room : cellsIn m (windowsIn m windows) ≤ length old) where
       pub next-room : nodeAt t i .base + nodeAt t i .cells ≤ length now
       next-room = omega (arith, node-room m windows t p i h, w .long)
 

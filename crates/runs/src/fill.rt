@@ -9,7 +9,7 @@ ghost use Rattle.sums.specs.Lists.{some};
 ghost use Rattle.calls.specs.Asked.{cellsIn, filledBy};
 ghost use Rattle.calls.specs.Start.{tooLarge};
 ghost use Rattle.binomials.specs.Rows.{rows as rowsOf};
-ghost use Rattle.plan.specs.Table.{runWindows};
+ghost use Rattle.plan.specs.Table.{windowsIn};
 ghost use Rattle.plan.specs.Asking.{Prepared};
 ghost use Rattle.runs.specs.Nodes.{nodeCells, put, NodeIn};
 use crate::leaves::leaf_too_large;
@@ -56,7 +56,7 @@ fn write_node(rows: &[u64], loads: &[u64], ch: Chains, n: Node, area: &mut [u64]
 
 pub fn some_leaf_too_large(rows: &[u64], m: Model, windows: [usize; 8], t: Table) -> bool
     requires { ⌜ (now rows ≡ rowsOf) × Prepared m windows t ⌝ }
-    ensures { λ r. ⌜ r ≡ some tooLarge (filledBy m (runWindows m windows)) ⌝ }
+    ensures { λ r. ⌜ r ≡ some tooLarge (filledBy m (windowsIn m windows)) ⌝ }
 {
     let loads = m.loads;
     let nodes = t.nodes;
@@ -79,9 +79,9 @@ pub fn some_leaf_too_large(rows: &[u64], m: Model, windows: [usize; 8], t: Table
 // The cells past the model's stay as they are.
 pub fn fill(rows: &[u64], m: Model, windows: [usize; 8], t: Table, area: &mut [u64])
     requires { ⌜ (now rows ≡ rowsOf) × Prepared m windows t ⌝ }
-    requires { ⌜ cellsIn m (runWindows m windows) ≤ length (now area) ⌝ }
-    requires { ⌜ some tooLarge (filledBy m (runWindows m windows)) ≡ false ⌝ }
-    ensures { λ _. ⌜ now (area .exit) ≡ filledBy m (runWindows m windows) ++ drop (cellsIn m (runWindows m windows)) (now (area .entry)) ⌝ }
+    requires { ⌜ cellsIn m (windowsIn m windows) ≤ length (now area) ⌝ }
+    requires { ⌜ some tooLarge (filledBy m (windowsIn m windows)) ≡ false ⌝ }
+    ensures { λ _. ⌜ now (area .exit) ≡ filledBy m (windowsIn m windows) ++ drop (cellsIn m (windowsIn m windows)) (now (area .entry)) ⌝ }
 {
     let loads = m.loads;
     let nodes = t.nodes;

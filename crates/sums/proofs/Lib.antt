@@ -1,4 +1,6 @@
+pub mod ChoiceLaws
 pub mod BoolLaws
+pub mod SearchLaws
 pub mod ListLaws
 pub mod PermLaws
 pub mod SumLaws

@@ -11,14 +11,14 @@ use Rattle.plan.proofs.tables.total.Statement.{statement}
 use Rattle.plan.proofs.tables.total.Tie as tie
 
 abbrev Inv-loop : tie.InvT-loop
-Inv-loop loads centres k sum₀ c₀ sum c = (c ≤ centres) × (sum ≡ countBy loads k (from 1 c))
+Inv-loop loads centres k sum₀ c₀ sum c = (sum ≡ countBy loads k (from 1 c)) × (c ≤ centres)
 
 abbrev μ-loop : tie.MeasureT-loop
 μ-loop loads centres k sum₀ c₀ sum c = centres - c
 
 loop-holds : tie.Need-loop-holds Inv-loop μ-loop
 unfolding from countBy those
-loop-holds c = (omega arith, refl)
+loop-holds c = (refl, omega arith)
 
 add-c : tie.Need-add-c Inv-loop μ-loop
 add-c c = search needs
@@ -27,16 +27,16 @@ visiting-requires : tie.Need-visiting-requires Inv-loop μ-loop
 visiting-requires c κs = search needs
 
 add-sum : tie.Need-add-sum Inv-loop μ-loop
-add-sum c = omega (arith, count-few _ _ (c .before .before .loop .c) _ _ (c .before .before .loop .inv .1) (c .visiting .ensures))
+add-sum c = omega (arith, count-few _ _ (c .before .before .loop .c) _ _ (c .before .before .loop .inv .0) (c .visiting .ensures))
 
 loop-less : tie.Need-loop-less Inv-loop μ-loop
 loop-less c = search needs
 
 loop-again : tie.Need-loop-again Inv-loop μ-loop
-loop-again c = (omega arith, count-more _ _ _ _ _ (c .before .before .loop .inv .1) (c .visiting .ensures))
+loop-again c = (count-more _ _ _ _ _ (c .before .before .loop .inv .0) (c .visiting .ensures), omega arith)
 
 returns : tie.Need-returns Inv-loop μ-loop
-returns c = let e : c .before .loop .c ≡ _ = whole (c .before .loop .inv .0) (c .loop-test .left) in rw e at (c .before .loop .inv .1)
+returns c = let e : c .before .loop .c ≡ _ = whole (c .before .loop .inv .1) (c .loop-test .left) in rw e at (c .before .loop .inv .0)
 
 pub total-spec : {M : Type 1} → statement M
 total-spec =

@@ -6,8 +6,8 @@ use lib.ListN.{getD}
 use borrow.Author.Needs.{needs}
 use borrow.Author.Tests.{eq-eqb, ne-eqb}
 use Rattle.sums.specs.Lists.{from, some}
+use Rattle.sums.proofs.SearchLaws.{some-start, some-hit, some-pass, some-end}
 use Rattle.modelfile.specs.Records.{centreMissing}
-use Rattle.reader.proofs.SomeLaws.{some-start, some-hit, some-pass, some-end}
 use Rattle.reader.proofs.model.centre_missing.Statement.{statement}
 use Rattle.reader.proofs.model.centre_missing.Tie as tie
 

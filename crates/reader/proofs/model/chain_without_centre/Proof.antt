@@ -4,8 +4,8 @@ use mathlib.Core.Bool.{not}
 use mathlib.Core.Path.{_≡_, refl, sym, ap, _∙_}
 use borrow.Author.Needs.{needs}
 use Rattle.sums.specs.Lists.{from, some}
+use Rattle.sums.proofs.SearchLaws.{some-start, some-hit, some-pass, some-end}
 use Rattle.modelfile.specs.Records.{loaded, chainWithoutCentre}
-use Rattle.reader.proofs.SomeLaws.{some-start, some-hit, some-pass, some-end}
 use Rattle.reader.proofs.model.chain_without_centre.Statement.{statement}
 use Rattle.reader.proofs.model.chain_without_centre.Tie as tie
 

@@ -5,8 +5,8 @@ use mathlib.Core.Path.{_≡_, refl, ap}
 use borrow.Author.Needs.{needs}
 use borrow.Author.Tests.{eq-eqb, ne-eqb}
 use Rattle.sums.specs.Lists.{from, some}
+use Rattle.sums.proofs.SearchLaws.{some-hit, some-pass, some-end}
 use Rattle.modelfile.specs.Records.{loaded}
-use Rattle.reader.proofs.SomeLaws.{some-hit, some-pass, some-end}
 use Rattle.reader.proofs.model.has_centre.Statement.{statement}
 use Rattle.reader.proofs.model.has_centre.Tie as tie
 

@@ -18,7 +18,7 @@ add-next c = search needs
 
 returns : tie.Need-returns
 unfolding withLoad
-returns c = rw (c .slot-of .ensures .0)
+returns c = rw (c .slot-of .ensures)
 
 pub with-load-spec : {M : Type 1} → statement M
 with-load-spec = tie.close (tie.spec slot-of-requires mul-next element-write-next add-next returns)

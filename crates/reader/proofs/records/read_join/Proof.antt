@@ -1,7 +1,7 @@
 -- `reader::records::read_join`. At each `return` a law of NodeLaws turns the test that led there into the definition's value.
 use borrow.Author.Needs.{needs}
+use Rattle.modelfile.proofs.SoundLaws.{join-room}
 use Rattle.reader.proofs.NodeLaws.{join-few, join-more}
-use Rattle.reader.proofs.RoomLaws.{join-room}
 use Rattle.reader.proofs.records.read_join.Statement.{statement}
 use Rattle.reader.proofs.records.read_join.Tie as tie
 
@@ -12,7 +12,7 @@ returns : tie.Need-returns
 returns c = search join-few
 
 with-join-requires : tie.Need-with-join-requires
-with-join-requires c κs = join-room _ (c .before .before .before .pre) (c .if1 .left)
+with-join-requires c κs = search join-room
 
 go-on-requires : tie.Need-go-on-requires
 go-on-requires c κs = search needs

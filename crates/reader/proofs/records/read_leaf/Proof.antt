@@ -1,9 +1,8 @@
 -- `reader::records::read_leaf`. At each `return` a law of NodeLaws turns the tests that led there into the definition's value. A
 -- centre that is not in the tree yet leaves room for one node more.
 use borrow.Author.Needs.{needs}
-use Rattle.reader.proofs.NodeLaws.{leaf-centre, leaf-first, leaf-again, leaf-more}
+use Rattle.reader.proofs.NodeLaws.{leaf-centre, leaf-first, leaf-again, leaf-fits, leaf-more}
 use Rattle.reader.proofs.NumberLaws.{centre-within}
-use Rattle.reader.proofs.RoomLaws.{leaf-room}
 use Rattle.reader.proofs.records.read_leaf.Statement.{statement}
 use Rattle.reader.proofs.records.read_leaf.Tie as tie
 
@@ -44,10 +43,7 @@ returns-3 : tie.Need-returns-3
 returns-3 c = search leaf-again
 
 with-leaf-requires : tie.Need-with-leaf-requires
-with-leaf-requires c κs =
-    let i = c .before .before .before .before .before in
-    let s = i .before .before .before .before .pre .1 in
-    leaf-room _ s _ (centre-within _ _ (i .before .before .centre-at .ensures) (i .c .given .1) (s .centres-few)) (c .before .before .is-placed .ensures) (c .if2 .left)
+with-leaf-requires c κs = search (centre-within, leaf-fits)
 
 go-on-requires : tie.Need-go-on-requires
 go-on-requires c κs = search needs

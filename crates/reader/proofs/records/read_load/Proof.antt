@@ -73,7 +73,7 @@ returns-4 c =
     let i = k .before .before .before .before in
     load-order _ _ _ (i .before .before .centre-at .ensures) (i .c .given .1) (k .before .before .chain-at .ensures) (k .k .given .1)
     (c .before .before .before .before .before .before .load-in .ensures) (c .before .before .before .before .before .is-outside .ensures)
-    (c .before .before .before .before .if1 .left) (c .before .before .before .slot-of .ensures .0) (c .before .if2 .taken) (c .stop4 .ensures)
+    (c .before .before .before .before .if1 .left) (c .before .before .before .slot-of .ensures) (c .before .if2 .taken) (c .stop4 .ensures)
 
 with-load-requires : tie.Need-with-load-requires
 with-load-requires c κs = search (centre-within, chain-within)
@@ -87,7 +87,7 @@ returns-5 c =
     let i = k .before .before .before .before in
     load-more _ _ _ (i .before .before .centre-at .ensures) (i .c .given .1) (k .before .before .chain-at .ensures) (k .k .given .1)
     (c .before .before .before .before .before .before .before .load-in .ensures) (c .before .before .before .before .before .before .is-outside .ensures)
-    (c .before .before .before .before .before .if1 .left) (c .before .before .before .before .slot-of .ensures .0) (c .before .before .if2 .left) (c .before .with-load .ensures) (c .go-on .ensures)
+    (c .before .before .before .before .before .if1 .left) (c .before .before .before .before .slot-of .ensures) (c .before .before .if2 .left) (c .before .with-load .ensures) (c .go-on .ensures)
 
 pub read-load-spec : {M : Type 1} → statement M
 read-load-spec =

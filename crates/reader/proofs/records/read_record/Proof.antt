@@ -1,7 +1,7 @@
 -- `reader::records::read_record`. At each `return` a law of KindLaws turns the tests of kind and completeness into the definition's
 -- value; the body's length gives each kind's function the bytes that it asks for.
 use borrow.Author.Needs.{needs}
-use Rattle.reader.proofs.DueLaws.{window-room}
+use Rattle.reader.proofs.DueLaws.{window-fits}
 use Rattle.reader.proofs.KindLaws.{holds-size, holds-window, holds-load, holds-leaf, kind-not-due, kind-short, kind-1, kind-2, kind-3, kind-4, kind-5, kind-6}
 use Rattle.reader.proofs.records.read_record.Statement.{statement}
 use Rattle.reader.proofs.records.read_record.Tie as tie
@@ -40,7 +40,7 @@ returns-3 : tie.Need-returns-3
 returns-3 c = search kind-1
 
 read-window-requires : tie.Need-read-window-requires
-read-window-requires c κs = search (holds-window, window-room)
+read-window-requires c κs = search (holds-window, window-fits)
 
 returns-4 : tie.Need-returns-4
 returns-4 c = search kind-2
