@@ -4,3 +4,4 @@ pub mod NodeLaws
 pub mod FillLaws
 pub mod PreparedLaws
 pub mod TurnLaws
+pub mod StartLaws
