@@ -45,9 +45,9 @@ firstOf [] = 0
 firstOf (t ∷ tests) = choose (t .1) (λ u. t .0) (λ u. firstOf tests)
 
 -- the windows of a run of an accepted file
-unfoldable pub runWindows : Model → ℕ → List ℕ
-runWindows m zero = windowsOf m
-runWindows m (suc k) = lessOne (windowsOf m) k
+unfoldable pub windowsIn : Model → ℕ → List ℕ
+windowsIn m zero = windowsOf m
+windowsIn m (suc k) = lessOne (windowsOf m) k
 
 -- 11: "lowered chain has window 0"
 unfoldable pub windowZero : Model → ℕ → Bool
@@ -67,10 +67,10 @@ pub record FileRefused (file : List ℕ) (number place : ℕ) : Type 0 where
 pub record FileAccepted (file : List ℕ) (m : Model) : Type 0 where
   pub planned : (lower : ℕ) → getD (planNumbers (plan file lower)) 0 0 ≡ firstOf ((10, ltb (m .chains) lower) ∷ (11, windowZero m lower) ∷ [])
   pub started : (lower : ℕ) (area : List ℕ) → getD (startNumbers (start file lower area .answer)) 0 0
-      ≡ firstOf ((10, ltb (m .chains) lower) ∷ (11, windowZero m lower) ∷ (12, noRoom (cellsIn m (runWindows m lower)) area) ∷ (14, some tooLarge (filledBy m (runWindows m lower))) ∷ [])
+      ≡ firstOf ((10, ltb (m .chains) lower) ∷ (11, windowZero m lower) ∷ (12, noRoom (cellsIn m (windowsIn m lower)) area) ∷ (14, some tooLarge (filledBy m (windowsIn m lower))) ∷ [])
   pub advanced : (lower done budget : ℕ) (area : List ℕ) → getD (advanceNumbers (advance file lower done budget area .answer)) 0 0
-      ≡ firstOf ((10, ltb (m .chains) lower) ∷ (11, windowZero m lower) ∷ (12, noRoom (cellsIn m (runWindows m lower)) area) ∷ (13, ltb (pairsIn m (runWindows m lower)) done)
-      ∷ (14, spend (2 ^ 64) (take budget (drop done (pairsListed m (runWindows m lower)))) done area .stopped) ∷ [])
+      ≡ firstOf ((10, ltb (m .chains) lower) ∷ (11, windowZero m lower) ∷ (12, noRoom (cellsIn m (windowsIn m lower)) area) ∷ (13, ltb (pairsIn m (windowsIn m lower)) done)
+      ∷ (14, spend (2 ^ 64) (take budget (drop done (pairsListed m (windowsIn m lower)))) done area .stopped) ∷ [])
   pub sheeted : (area : List ℕ) → sheet file area .answer .refusal ≡ firstOf ((12, noRoom (cellsIn m (windowsOf m)) area) ∷ (14, tooLarge (fullValue m)) ∷ (15, some tooLarge (numerators m)) ∷ [])
   pub part : 1 ≤ length (treePart file)
 
@@ -105,8 +105,8 @@ file-refused file number place e = record {
 
 -- the two tests of lowering, and what comes after them
 module _ {A : Type 0} (m : Model) (stop : ℕ → ℕ → A) (on : Model → List ℕ → A) (numberOf : A → ℕ) (later : List ℕ → List (ℕ × Bool)) (stops : (number place : ℕ) → numberOf (stop number place) ≡ number) (goes : (windows : List ℕ) → numberOf (on m windows) ≡ firstOf (later windows)) where
-  by-lowering : (lower : ℕ) → numberOf (onGranted (lowering m lower) stop on) ≡ firstOf ((10, ltb (m .chains) lower) ∷ (11, windowZero m lower) ∷ later (runWindows m lower))
-  unfolding lowering firstOf windowZero runWindows
+  by-lowering : (lower : ℕ) → numberOf (onGranted (lowering m lower) stop on) ≡ firstOf ((10, ltb (m .chains) lower) ∷ (11, windowZero m lower) ∷ later (windowsIn m lower))
+  unfolding lowering firstOf windowZero windowsIn
   by-lowering zero = goes (windowsOf m) ∙ ap (λ t. choose t (λ u. 10) (λ u. firstOf (later (windowsOf m)))) (sym (le-ltb (m .chains) 0 (omega arith)))
   by-lowering (suc k) = by (ltb (m .chains) (suc k)) (eqb (getD (windowsOf m) k 0) 0)
     where

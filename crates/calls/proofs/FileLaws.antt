@@ -127,7 +127,7 @@ low-set (x ∷ xs) zero bound f (suc k) = f (suc k)
 low-set (x ∷ xs) (suc i) bound f zero = f 0
 low-set (x ∷ xs) (suc i) bound f (suc k) = low-set xs i bound (λ j. f (suc j)) k
 
-take-low : (n : ℕ) (xs : List ℕ) (bound : ℕ) → ((k : ℕ) → getD xs k 0 ≤ bound) → (k : ℕ) → getD (take n xs) k 0 ≤ bound
+pub take-low : (n : ℕ) (xs : List ℕ) (bound : ℕ) → ((k : ℕ) → getD xs k 0 ≤ bound) → (k : ℕ) → getD (take n xs) k 0 ≤ bound
 take-low zero xs bound f k = omega arith
 take-low (suc n) [] bound f k = f k
 take-low (suc n) (x ∷ xs) bound f zero = f 0

@@ -15,3 +15,4 @@ pub mod WholeLaws
 pub mod CountLaws
 pub mod SpendLaws
 pub mod PostorderLaws
+pub mod LayoutLaws

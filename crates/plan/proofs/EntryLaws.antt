@@ -68,7 +68,7 @@ module _ (routes : List Route) (windows : List ℕ) where
   -- ---- entries
 
   module _ (ch : Chains) (ec : ch .count ≡ length windows) (et : ch .totals ≡ totalsOf routes windows) (ew : map (λ i. getD (ch .windows) i 0) (from 0 (length windows)) ≡ windows) where
-    spans-are : (t : Tree) (rest : List ℕ) → Parted routes (under t) rest → spansBy (ch .totals) (ch .windows) (countsAt routes windows t) 0 (ch .count) ≡ spansAt routes windows t
+    pub spans-are : (t : Tree) (rest : List ℕ) → Parted routes (under t) rest → spansBy (ch .totals) (ch .windows) (countsAt routes windows t) 0 (ch .count) ≡ spansAt routes windows t
     unfolding spansAt
     spans-are t rest p = rw (ec, et) (spans-zip (totalsOf routes windows) (ch .windows) (countsAt routes windows t) 0 (length windows) ∙ (λ j. zipWith span (covers-are t rest p j) (ew j)))
 

@@ -8,6 +8,7 @@ pub mod MadeLaws
 pub mod StackLaws
 pub mod ForestLaws
 pub mod EntryLaws
+pub mod EntriesLaws
 pub mod ModelLaws
 pub mod GrownLaws
 pub mod LowerLaws

@@ -1,3 +1,4 @@
 pub mod Table
 pub mod Steps
 pub mod Lowered
+pub mod Asking

@@ -4,8 +4,7 @@ use mathlib.Core.Path.{_≡_}
 use mathlib.Core.List.{List}
 use lib.ListN.{length, getD, take}
 use Rattle.modelfile.specs.declared.Model.{Model}
-use Rattle.calls.specs.Asked.{refused, granted, lowering, onGranted, cellsIn, pairsIn}
-use Rattle.calls.specs.declared.PlanAnswer.{PlanAnswer}
+use Rattle.calls.specs.Asked.{refused, granted, lowering}
 use Rattle.plan.specs.declared.Asked.{Asked}
 use Rattle.plan.specs.declared.Lowering.{Lowering}
 
@@ -18,7 +17,3 @@ pub record Lowered (m : Model) (lower : ℕ) (r : Lowering) : Type 0 where
   pub answer : askedOf (r .asked) m (r .windows) ≡ lowering m lower
   pub long : length (r .windows) ≡ 8
   pub small : (k : ℕ) → getD (r .windows) k 0 ≤ 15
-
--- the plan of an accepted file's model
-unfoldable pub planGranted : Model → ℕ → PlanAnswer
-planGranted m lower = onGranted (lowering m lower) (λ number place. PlanAnswer.Refused number place) (λ m windows. PlanAnswer.Planned (cellsIn m windows) (pairsIn m windows))

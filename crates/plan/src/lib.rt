@@ -1,20 +1,16 @@
 // The node table of a model under the windows of a run, and the plan call.
 mod arrays; // arrays.rt: a node's cells and strides
+pub mod asking; // asking.rt: from a file and a chain to lower to a model, its windows and its table
 pub mod coverage; // coverage.rt: a chain's coverage by counting, and what it makes of cells and pairs
 mod nodes; // nodes.rt: one node of the table
 pub mod tables; // tables.rt: the table, node by node
 pub mod windows; // windows.rt: the windows of a run
 
 ghost use mathlib.Core.Path.{_≡_};
-ghost use Rattle.modelfile.proofs.Guaranteed.{Guaranteed};
-ghost use Rattle.calls.specs.Asked.{lowering, onGranted, cellsIn, pairsIn};
 ghost use Rattle.calls.specs.Plan.{plan};
-ghost use Rattle.plan.specs.Lowered.{planGranted};
-use crate::tables::make_table;
-use crate::windows::lowered;
+use crate::asking::prepare;
 use calls::PlanAnswer;
 use modelfile::Model;
-use modelfile::Verdict;
 
 // A chain's coverage at a node.
 pub enum Cover {
@@ -71,37 +67,26 @@ pub struct Lowering {
     pub windows: [usize; 8],
 }
 
-fn plan_model(m: Model, lower: u64) -> PlanAnswer
-    requires { ⌜ Guaranteed m ⌝ }
-    ensures { λ r. ⌜ r ≡ planGranted m lower ⌝ }
-{
-    let l = lowered(m, lower);
-    let asked = l.asked;
-    let windows = l.windows;
-    match asked {
-        Asked::Refused { number, place } => PlanAnswer::Refused { number, place },
-        Asked::Granted => {
-            let t = make_table(m, windows);
-            PlanAnswer::Planned {
-                cells: t.cells as u64,
-                pairs: t.pairs,
-            }
-        }
-    }
+// What a file and a chain to lower ask for: where it is granted, the model, the windows of the run and their table stand beside.
+pub struct Run {
+    pub asked: Asked,
+    pub model: Model,
+    pub windows: [usize; 8],
+    pub table: Table,
 }
 
 // "Plan returns cells and pairs."
 pub fn plan(file: &[u8], lower: u64) -> PlanAnswer
     ensures { λ r. ⌜ r ≡ plan (now (file .entry)) lower ⌝ }
 {
-    let reading = reader::read_file(file);
-    let verdict = reading.verdict;
-    let m = reading.model;
-    match verdict {
-        Verdict::Accepted => plan_model(m, lower),
-        Verdict::Refused { number, place } => PlanAnswer::Refused {
-            number: number as u64,
-            place: place as u64,
+    let run = prepare(file, lower);
+    let asked = run.asked;
+    let t = run.table;
+    match asked {
+        Asked::Refused { number, place } => PlanAnswer::Refused { number, place },
+        Asked::Granted => PlanAnswer::Planned {
+            cells: t.cells as u64,
+            pairs: t.pairs,
         },
     }
 }

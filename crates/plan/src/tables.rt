@@ -77,7 +77,7 @@ fn with_node(t: Table, e: Node) -> Table
     next
 }
 
-fn empty_table(totals: [usize; 8]) -> Table
+pub fn empty_table(totals: [usize; 8]) -> Table
     ensures { λ r. ⌜ r ≡ emptyTable totals ⌝ }
 {
     let none = Node {
