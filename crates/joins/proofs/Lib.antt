@@ -1,0 +1,6 @@
+pub mod WalkLaws
+pub mod PartLaws
+pub mod PairLaws
+pub mod CellLaws
+pub mod TurnLaws
+pub mod LoopLaws
