@@ -121,8 +121,7 @@ module _ (size : ℕ) (join : Join) (rows : List ℕ) (l r t count : ℕ) where
       let at = no-loop loops k s in
       let w = at .inside .reads in
       let f = sym (times-out (length rows) (length rows) count (i + 1) (le-refl (length rows))) in
-      let g = set-out rows (length rows) (i + 1) (le-refl (length rows)) in
-      (
+      let g = set-out rows (length rows) (i + 1) (le-refl (length rows)) in (
         rw (one-of-one i h l, one-of-one i h r, one-of-one i h t, f) (record { l-low = omega (arith, w .left-reach, w .left-to); r-low = omega (arith, w .right-reach, w .right-to); t-low = omega (arith, at .inside .own-at, at .inside .own-to); count-low = hc }),
         rw (one-of-one i h l, one-of-one i h r, one-of-one i h t, f, g) at,
       )

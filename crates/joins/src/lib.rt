@@ -49,7 +49,11 @@ fn walk_pair(area: &mut [u64], join: Join, l: usize, r: usize, t: usize, q: Quot
         return q;
     }
     if 0 < q.skip {
-        return Quota { skip: q.skip - 1, budget: q.budget, over: false };
+        return Quota {
+            skip: q.skip - 1,
+            budget: q.budget,
+            over: false,
+        };
     }
     if q.budget == 0 {
         return q;
@@ -63,9 +67,17 @@ fn walk_pair(area: &mut [u64], join: Join, l: usize, r: usize, t: usize, q: Quot
     match cellsums::add_pair(area, left, right, l, r, x) {
         Fits::Exact(v) => {
             put(&mut area[t0..t1], t, v);
-            Quota { skip: 0, budget: q.budget - 1, over: false }
+            Quota {
+                skip: 0,
+                budget: q.budget - 1,
+                over: false,
+            }
         }
-        Fits::TooLarge => Quota { skip: 0, budget: q.budget, over: true },
+        Fits::TooLarge => Quota {
+            skip: 0,
+            budget: q.budget,
+            over: true,
+        },
     }
 }
 
@@ -115,9 +127,18 @@ fn one_by_one(
     let right = join.right;
     let own = join.own;
     let copy = Join {
-        left: Part { from: left.from, to: left.to },
-        right: Part { from: right.from, to: right.to },
-        own: Part { from: own.from, to: own.to },
+        left: Part {
+            from: left.from,
+            to: left.to,
+        },
+        right: Part {
+            from: right.from,
+            to: right.to,
+        },
+        own: Part {
+            from: own.from,
+            to: own.to,
+        },
     };
     let e = walk_rows(
         area,
@@ -126,9 +147,17 @@ fn one_by_one(
         l,
         r,
         t,
-        Quota { skip: q.skip, budget: q.budget, over: q.over },
+        Quota {
+            skip: q.skip,
+            budget: q.budget,
+            over: q.over,
+        },
     );
-    Quota { skip: e.skip, budget: e.budget, over: e.over }
+    Quota {
+        skip: e.skip,
+        budget: e.budget,
+        over: e.over,
+    }
 }
 
 // The pairs of a cell: passed over by their number, or summed at once; one by one where skip or budget ends among them or a sum does not
@@ -151,7 +180,11 @@ fn walk_cell(
         return q;
     }
     if count <= q.skip {
-        return Quota { skip: q.skip - count, budget: q.budget, over: false };
+        return Quota {
+            skip: q.skip - count,
+            budget: q.budget,
+            over: false,
+        };
     }
     if 0 < q.skip {
         return one_by_one(area, join, rows, l, r, t, q);
@@ -168,7 +201,11 @@ fn walk_cell(
     match cellsums::cell_sum(area, left, right, rows, l, r, x) {
         Fits::Exact(v) => {
             put(&mut area[t0..t1], t, v);
-            Quota { skip: 0, budget: q.budget - count, over: false }
+            Quota {
+                skip: 0,
+                budget: q.budget - count,
+                over: false,
+            }
         }
         Fits::TooLarge => one_by_one(area, join, rows, l, r, t, q),
     }
@@ -256,7 +293,13 @@ fn walk_loops(
 {
     let len = rows.len();
     if loops.len() < 5 {
-        let dummy = Loop { count: 1, row: len, left: 0, right: 0, own: 0 };
+        let dummy = Loop {
+            count: 1,
+            row: len,
+            left: 0,
+            right: 0,
+            own: 0,
+        };
         return walk_last(area, join, dummy, rows, l, r, t, count, q);
     }
     let n = loops[0];
@@ -265,7 +308,13 @@ fn walk_loops(
     let b = loops[3];
     let c = loops[4];
     if loops.len() == 5 {
-        let last = Loop { count: n, row: p, left: a, right: b, own: c };
+        let last = Loop {
+            count: n,
+            row: p,
+            left: a,
+            right: b,
+            own: c,
+        };
         return walk_last(area, join, last, rows, l, r, t, count, q);
     }
     let old = value_at(rows, p);

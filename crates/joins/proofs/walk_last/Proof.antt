@@ -71,8 +71,7 @@ loop-again : tie.Need-loop-again Inv-loop μ-loop
 loop-again c =
     let i = c .before .before .before .before .before .before .before .before .before .before .before .loop .inv in
     let rows = c .before .before .before .before .before .before .before .before .before .before .before .loop .rows in
-    let rows₀ = c .before .before .before .before .before .before .before .before .before .before .before .before .before .before .before .before .args .rows .now in
-    (
+    let rows₀ = c .before .before .before .before .before .before .before .before .before .before .before .before .before .before .before .before .args .rows .now in (
       (omega (arith, c .before .before .walk-cell .kept .0, i .0 .0), write-length rows rows₀ _ _ _ _ (i .0 .1) (c .before .before .before .before .before .before .before .before .set-at .ensures) refl, i .0 .2, i .0 .3, i .0 .4),
       write-again rows rows₀ _ _ _ (c .before .before .before .before .before .before .before .before .before .before .before .loop .i + 1) (i .1) (c .before .before .before .before .before .before .before .before .set-at .ensures) refl,
       last-again _ _ _ _ _ _ _ _ _ _ _ _ _ _ (i .2) (c .before .before .before .before .before .before .before .before .before .before .loop-test .taken) _ (c .before .before .before .before .before .before .before .before .set-at .ensures ∙ i .1 _) (c .before .before .walk-cell .ensures),
