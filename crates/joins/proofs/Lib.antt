@@ -4,3 +4,5 @@ pub mod PairLaws
 pub mod CellLaws
 pub mod TurnLaws
 pub mod LoopLaws
+pub mod ChainLaws
+pub mod MeetLaws

@@ -338,3 +338,10 @@ fn walk_loops(
     set_at(rows, p, old);
     e
 }
+
+// How much of the arrays of loops and rows is used, and how many pairs the first result cell has.
+pub struct Used {
+    pub loops: usize,
+    pub rows: usize,
+    pub count: usize,
+}
