@@ -6,3 +6,5 @@ pub mod TurnLaws
 pub mod LoopLaws
 pub mod ChainLaws
 pub mod MeetLaws
+pub mod SoundLaws
+pub mod FlatLaws
