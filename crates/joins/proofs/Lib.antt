@@ -8,3 +8,4 @@ pub mod ChainLaws
 pub mod MeetLaws
 pub mod SoundLaws
 pub mod FlatLaws
+pub mod JoinLaws
