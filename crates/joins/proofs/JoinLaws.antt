@@ -1,10 +1,10 @@
 -- A join of a network: the flat lists of its windows and strides are sound, and walking them is walking the network's own pairs of the join.
-use Prim.Native.Nat.{ℕ, suc, _+_, _*_, _^_, _≤_, _<_}
+use Prim.Native.Nat.{ℕ, suc, _+_, _-_, _*_, _^_, _≤_, _<_}
 use mathlib.Core.Path.{_≡_, refl, sym, ap, subst, _∙_, fun-ext}
 use mathlib.Core.List.{List, [], _∷_, _++_, map, map-map, flatMap, zipWith}
-use native.Mathlib.Nat.{pow-le-pow-right, zero-add, one-mul, mul-one}
+use native.Mathlib.Nat.{pow-le-pow-right, zero-add, one-mul, sub-zero}
 use native.Mathlib.Omega.{arith}
-use lib.ListN.{length}
+use lib.ListN.{length, take, drop}
 use Rattle.network.specs.Coverage.{Coverage, Tree, join, coverages}
 use Rattle.network.specs.Cells.{Span, indices, cells, span, strides, along, spansAt, allCells, base, cellOf}
 use Rattle.network.specs.Pairs.{Pair, indexPairs, ownPairs}
@@ -13,9 +13,11 @@ use Rattle.network.proofs.NodeLaws.{coverages-length, spans-length}
 use Rattle.network.proofs.AreaLaws.{base-is, base-join, base-room}
 use Rattle.cellsums.specs.Places.{places}
 use Rattle.joins.specs.Loops.{pairAt, cellPairs, loopPairs, Sound}
-use Rattle.joins.specs.Flat.{Flat, addChains, nothing}
+use Rattle.joins.specs.Walk.{State, walk}
+use Rattle.joins.specs.Flat.{Flat, addChains, flat, nothing}
 use Rattle.joins.specs.Join.{JoinOf}
 use Rattle.joins.specs.declared.Join.{Join}
+use Rattle.joins.specs.declared.Used.{Used}
 use Rattle.joins.proofs.ChainLaws.{Chain, spanOf, ownStride, loops, rows, rowsAt, leftAt, rightAt, loops-list, pairsOf}
 use Rattle.joins.proofs.MeetLaws.{chains, chains-span, chains-stride, chains-places, placed}
 use Rattle.joins.proofs.SoundLaws.{flatRows, pairsIn, lastLeft, lastRight, ended, most, Parts, Bounds, chains-sound}
@@ -123,3 +125,15 @@ module _ {windows lefts rights owns : List ℕ} {parts : Join} {size : ℕ} (j :
       (λ i. loopPairs parts (built i .loops) (built i .rows) 0 0 0)
       ∙ loops-list parts cs [] 0 0 0 (omega (arith, few))
       ∙ (λ i. flatMap (λ v. index-pairs v i) (indices (chains-span met windows i)))
+
+  -- ---- the same of the used parts of the two arrays
+
+  module _ (u : Used) (L R : List ℕ) (e : flat u L R ≡ addChains nothing windows lefts rights owns) where
+    used : (xs : List ℕ) (n : ℕ) → take (n - 0) (drop 0 xs) ≡ take n xs
+    used xs n = rw (sub-zero n)
+
+    pub used-sound : size < 2 ^ 64 → Sound size parts (take (u .loops - 0) (drop 0 L)) (take (u .rows - 0) (drop 0 R)) 0 0 0 (u .count)
+    used-sound h = rw (used L (u .loops), used R (u .rows)) (subst (λ f. Sound size parts (f .loops) (f .rows) 0 0 0 (f .count)) (sym e) (own-sound h))
+
+    pub used-walk : (s s' : State) → s' ≡ walk (loopPairs parts (take (u .loops - 0) (drop 0 L)) (take (u .rows - 0) (drop 0 R)) 0 0 0) s → s' ≡ walk (ownPairs (j .routes) windows (j .left) (j .right) (j .start)) s
+    used-walk s s' d = d ∙ ap (λ ps. walk ps s) ((λ i. loopPairs parts ((used L (u .loops) ∙ ap (λ f. f .loops) e) i) ((used R (u .rows) ∙ ap (λ f. f .rows) e) i) 0 0 0) ∙ own-list)

@@ -9,3 +9,4 @@ pub mod MeetLaws
 pub mod SoundLaws
 pub mod FlatLaws
 pub mod JoinLaws
+pub mod BuildLaws

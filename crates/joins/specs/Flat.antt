@@ -1,11 +1,12 @@
 -- The flat lists of loops and rows, chain after chain, from a chain's window and its strides in the left child, the right child and the join.
 -- A stride is 0 where the chain is not partial: so a chain with two strides in the children is shared, and one with a stride in the
 -- join has an index there.
-use Prim.Native.Nat.{ℕ, _+_, _*_}
+use Prim.Native.Nat.{ℕ, _+_, _*_, _^_, _≤_, _<_}
+use mathlib.Core.Path.{_≡_}
 use mathlib.Core.Bool.{Bool, true, false, _&&_}
 use mathlib.Core.List.{List, [], _∷_, _++_}
 use lib.Dec.{ltb}
-use lib.ListN.{length, take}
+use lib.ListN.{length, getD, take}
 use Rattle.joins.specs.declared.Used.{Used}
 
 -- past every row: eight chains have at most 24 numbers of rows
@@ -41,3 +42,26 @@ flat u loops rows = record { loops = take (u .loops) loops; rows = take (u .rows
 
 abbrev pub nothing : Flat
 nothing = record { loops = []; rows = []; count = 1 }
+
+-- ---- what the code that builds them asks for, and keeps to
+
+-- the arrays have room for one more chain with window n
+pub record Room (u : Used) (n loops rows : ℕ) : Type 0 where
+  pub loops-room : u .loops + 5 ≤ loops
+  pub rows-room : u .rows + 3 ≤ rows
+  pub window : n ≤ 15
+  pub count-room : u .count * (n + 1) < 2 ^ 64
+
+-- one chain takes no more
+pub record Grown (u v : Used) (n : ℕ) : Type 0 where
+  pub loops : v .loops ≤ u .loops + 5
+  pub rows : v .rows ≤ u .rows + 3
+  pub count : v .count ≤ u .count * (n + 1)
+
+-- at most eight chains, with four numbers each
+pub record Chains (windows lefts rights owns : List ℕ) : Type 0 where
+  pub few : length windows ≤ 8
+  pub lefts-length : length lefts ≡ length windows
+  pub rights-length : length rights ≡ length windows
+  pub owns-length : length owns ≡ length windows
+  pub messages : (k : ℕ) → getD windows k 0 ≤ 15
