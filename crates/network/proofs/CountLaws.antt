@@ -23,7 +23,7 @@ use Rattle.network.proofs.NodeLaws.{coverages-length}
 use Rattle.network.proofs.AreaLaws.{cell-in, base-join, base-room}
 
 module _ (routes : List Route) (windows : List ℕ) where
-  own-count : (l r : Tree) (rest : List ℕ) → Parted routes (under (join l r)) rest → (start : ℕ) → length (ownPairs routes windows l r start) ≡ factors (coverages routes (length windows) l) (coverages routes (length windows) r) (coverages routes (length windows) (join l r)) windows
+  pub own-count : (l r : Tree) (rest : List ℕ) → Parted routes (under (join l r)) rest → (start : ℕ) → length (ownPairs routes windows l r start) ≡ factors (coverages routes (length windows) l) (coverages routes (length windows) r) (coverages routes (length windows) (join l r)) windows
   unfolding ownPairs spansAt
   own-count l r rest parted start =
       length-flat-sum _ (indices (spansAt routes windows (join l r)))

@@ -1,0 +1,12 @@
+pub mod WalkLaws
+pub mod PartLaws
+pub mod PairLaws
+pub mod CellLaws
+pub mod TurnLaws
+pub mod LoopLaws
+pub mod ChainLaws
+pub mod MeetLaws
+pub mod SoundLaws
+pub mod FlatLaws
+pub mod JoinLaws
+pub mod BuildLaws

@@ -1,0 +1,145 @@
+-- A join's loops turn by turn: what a turn asks for and leaves, the place of the row's count that it writes and restores, and a flat list of
+-- loops as its first loop and the others.
+use Prim.Native.Nat.{ℕ, suc, _+_, _-_, _*_, _^_, _≤_, _<_}
+use mathlib.Core.Path.{_≡_, refl, sym, ap, _∙_}
+use mathlib.Core.List.{List, [], _∷_, flatMap, append-nil}
+use native.Mathlib.Nat.{le-refl}
+use native.Mathlib.Omega.{arith}
+use borrow.Author.Tests.{lt-ltb, le-ltb}
+use lib.Dec.{ltb}
+use lib.ListN.{length, getD, set, take, drop, length-set}
+use lib.Seq.{take-all, set-set, set-getD, set-out}
+use Rattle.sums.specs.Lists.{from}
+use Rattle.network.specs.Pairs.{Pair}
+use Rattle.joins.specs.Walk.{State, walk}
+use Rattle.joins.specs.Loops.{cellPairs, loopPairs, Inside, At, Numbers, times, Sound}
+use Rattle.joins.specs.declared.Join.{Join}
+use Rattle.joins.proofs.TurnLaws.{ahead, ahead-all, Walked, walk-again, walk-ends}
+
+pub times-in : (p len count n : ℕ) → p < len → count * n ≡ times (ltb p len) count n
+unfolding times
+times-in p len count n h = rw (lt-ltb p len h)
+
+pub times-out : (p len count n : ℕ) → len ≤ p → count ≡ times (ltb p len) count n
+unfolding times
+times-out p len count n h = rw (le-ltb p len h)
+
+-- ---- a turn of a loop
+
+module _ (join : Join) (n p a b c : ℕ) (loops rows : List ℕ) (l r t : ℕ) where
+  pub loopTurn : ℕ → List Pair
+  loopTurn i = loopPairs join loops (set rows p (i + 1)) (l + i * a) (r + i * b) (t + i * c)
+
+  pub loop-again : (s₀ s u : State) (i : ℕ) → Walked loopTurn n s₀ s i → i < n → (rows' : List ℕ) → rows' ≡ set rows p (i + 1) → u ≡ walk (loopPairs join loops rows' (l + i * a) (r + i * b) (t + i * c)) s → Walked loopTurn n s₀ u (i + 1)
+  unfolding loopTurn
+  loop-again s₀ s u i w h rows' er e = walk-again loopTurn n s₀ s u i w h (e ∙ ap (λ x. walk (loopPairs join loops x (l + i * a) (r + i * b) (t + i * c)) s) er)
+
+  loop-turns : loopPairs join (n ∷ p ∷ a ∷ b ∷ c ∷ loops) rows l r t ≡ ahead loopTurn n 0
+  unfolding loopPairs loopTurn
+  loop-turns = ahead-all loopTurn n
+
+  pub loop-ends : (s₀ s : State) (i : ℕ) → Walked loopTurn n s₀ s i → n ≤ i → (all : List ℕ) → all ≡ n ∷ p ∷ a ∷ b ∷ c ∷ loops → s ≡ walk (loopPairs join all rows l r t) s₀
+  loop-ends s₀ s i w h all e = walk-ends loopTurn n s₀ s i w h ∙ ap (λ ps. walk ps s₀) (sym loop-turns ∙ ap (λ x. loopPairs join x rows l r t) (sym e))
+
+module _ (size : ℕ) (join : Join) (n p a b c : ℕ) (loops rows : List ℕ) (l r t count : ℕ) (s : Sound size join (n ∷ p ∷ a ∷ b ∷ c ∷ loops) rows l r t count) (i : ℕ) (h : i < n) where
+  pub turn-numbers : Numbers (l + i * a) (r + i * b) (t + i * c) (times (ltb p (length rows)) count (i + 1))
+  unfolding Sound
+  turn-numbers = s i h .0
+
+  -- the same for the length of the area, the rows and the number of pairs that the code has at hand
+  pub turn-sound : (size' count' : ℕ) (rows' : List ℕ) → size' ≡ size → rows' ≡ set rows p (i + 1) → count' ≡ times (ltb p (length rows)) count (i + 1) → Sound size' join loops rows' (l + i * a) (r + i * b) (t + i * c) count'
+  unfolding Sound
+  turn-sound size' count' rows' es er ec = rw (es, er, ec) (s i h .1)
+
+-- ---- the last loop's turn is one cell
+
+pub last-at : (size : ℕ) (join : Join) (rows : List ℕ) (l r t count : ℕ) → Sound size join [] rows l r t count → At size join rows l r t count
+unfolding Sound
+last-at size join rows l r t count s = s
+
+module _ (join : Join) (n p a b c : ℕ) (rows : List ℕ) (l r t : ℕ) where
+  pub last-again : (s₀ s u : State) (i : ℕ) → Walked (loopTurn join n p a b c [] rows l r t) n s₀ s i → i < n → (rows' : List ℕ) → rows' ≡ set rows p (i + 1)
+      → u ≡ walk (cellPairs join rows' (l + i * a) (r + i * b) (t + i * c)) s → Walked (loopTurn join n p a b c [] rows l r t) n s₀ u (i + 1)
+  unfolding loopPairs
+  last-again s₀ s u i w h rows' er e = loop-again join n p a b c [] rows l r t s₀ s u i w h rows' er e
+
+-- ---- the place that a loop writes, and restores
+
+pub write-again : (rows rows₀ rows' rows'' : List ℕ) (p v : ℕ) → ((x : ℕ) → set rows p x ≡ set rows₀ p x) → rows' ≡ set rows p v → rows'' ≡ rows' → (x : ℕ) → set rows'' p x ≡ set rows₀ p x
+write-again rows rows₀ rows' rows'' p v f e d x = ap (λ y. set y p x) (d ∙ e ∙ f v) ∙ set-set rows₀ p v x
+
+pub write-length : (rows rows₀ rows' rows'' : List ℕ) (p v : ℕ) → length rows ≡ length rows₀ → rows' ≡ set rows p v → rows'' ≡ rows' → length rows'' ≡ length rows₀
+write-length rows rows₀ rows' rows'' p v f e d = ap length (d ∙ e) ∙ length-set rows p v ∙ f
+
+pub restored : (rows rows₀ rows' : List ℕ) (p old : ℕ) → ((x : ℕ) → set rows p x ≡ set rows₀ p x) → old ≡ getD rows₀ p 0 → rows' ≡ set rows p old → rows' ≡ rows₀
+restored rows rows₀ rows' p old f o e = e ∙ f old ∙ ap (set rows₀ p) o ∙ set-getD rows₀ p 0
+
+-- ---- a flat list's first loop and the others
+
+pub first-loop : (loops : List ℕ) → 5 ≤ length loops → loops ≡ getD loops 0 0 ∷ getD loops 1 0 ∷ getD loops 2 0 ∷ getD loops 3 0 ∷ getD loops 4 0 ∷ take (length loops - 5) (drop 5 loops)
+first-loop [] k = absurd (omega arith)
+first-loop (n ∷ []) k = absurd (omega arith)
+first-loop (n ∷ p ∷ []) k = absurd (omega arith)
+first-loop (n ∷ p ∷ a ∷ []) k = absurd (omega arith)
+first-loop (n ∷ p ∷ a ∷ b ∷ []) k = absurd (omega arith)
+first-loop (n ∷ p ∷ a ∷ b ∷ c ∷ loops) k = ap (λ x. n ∷ p ∷ a ∷ b ∷ c ∷ x) (sym (take-all (suc (suc (suc (suc (suc (length loops))))) - 5) loops (omega arith)))
+
+pub last-loop : (loops : List ℕ) → length loops ≡ 5 → loops ≡ getD loops 0 0 ∷ getD loops 1 0 ∷ getD loops 2 0 ∷ getD loops 3 0 ∷ getD loops 4 0 ∷ []
+last-loop [] k = absurd (omega arith)
+last-loop (n ∷ []) k = absurd (omega arith)
+last-loop (n ∷ p ∷ []) k = absurd (omega arith)
+last-loop (n ∷ p ∷ a ∷ []) k = absurd (omega arith)
+last-loop (n ∷ p ∷ a ∷ b ∷ []) k = absurd (omega arith)
+last-loop (n ∷ p ∷ a ∷ b ∷ c ∷ []) k = refl
+last-loop (n ∷ p ∷ a ∷ b ∷ c ∷ x ∷ loops) k = absurd (omega arith)
+
+module _ (size : ℕ) (join : Join) (rows : List ℕ) (l r t count : ℕ) where
+  pub sound-as : {loops loops' : List ℕ} → loops ≡ loops' → Sound size join loops rows l r t count → Sound size join loops' rows l r t count
+  sound-as e s = rw (← e) s
+
+pub pairs-as : (join : Join) (rows : List ℕ) (l r t : ℕ) (s u : State) {loops loops' : List ℕ} → loops ≡ loops' → u ≡ walk (loopPairs join loops' rows l r t) s → u ≡ walk (loopPairs join loops rows l r t) s
+pairs-as join rows l r t s u d e = e ∙ ap (λ x. walk (loopPairs join x rows l r t) s) (sym d)
+
+-- ---- no loop is as good as one of one, whose row lies past the end
+
+module _ (size : ℕ) (join : Join) (rows : List ℕ) (l r t count : ℕ) where
+  no-loop : (loops : List ℕ) → length loops < 5 → Sound size join loops rows l r t count → At size join rows l r t count
+  unfolding Sound
+  no-loop [] k s = s
+  no-loop (n ∷ []) k s = s
+  no-loop (n ∷ p ∷ []) k s = s
+  no-loop (n ∷ p ∷ a ∷ []) k s = s
+  no-loop (n ∷ p ∷ a ∷ b ∷ []) k s = s
+  no-loop (n ∷ p ∷ a ∷ b ∷ c ∷ loops) k s = absurd (omega arith)
+
+  one-of-one : (i : ℕ) → i < 1 → (x : ℕ) → x + i * 0 ≡ x
+  one-of-one i h x = omega arith
+
+  pub dummy-sound : (loops : List ℕ) → length loops < 5 → size < 2 ^ 64 → count < 2 ^ 64 → Sound size join loops rows l r t count → Sound size join (1 ∷ length rows ∷ 0 ∷ 0 ∷ 0 ∷ []) rows l r t count
+  unfolding Sound
+  dummy-sound loops k hs hc s = λ i h.
+      let at = no-loop loops k s in
+      let w = at .inside .reads in
+      let f = sym (times-out (length rows) (length rows) count (i + 1) (le-refl (length rows))) in
+      let g = set-out rows (length rows) (i + 1) (le-refl (length rows)) in (
+        rw (one-of-one i h l, one-of-one i h r, one-of-one i h t, f) (record { l-low = omega (arith, w .left-reach, w .left-to); r-low = omega (arith, w .right-reach, w .right-to); t-low = omega (arith, at .inside .own-at, at .inside .own-to); count-low = hc }),
+        rw (one-of-one i h l, one-of-one i h r, one-of-one i h t, f, g) at,
+      )
+
+pub dummy-pairs : (join : Join) (rows : List ℕ) (l r t : ℕ) (s u : State) (loops : List ℕ) → length loops < 5 → u ≡ walk (loopPairs join (1 ∷ length rows ∷ 0 ∷ 0 ∷ 0 ∷ []) rows l r t) s → u ≡ walk (loopPairs join loops rows l r t) s
+unfolding loopPairs flatMap from
+dummy-pairs join rows l r t s u loops k e =
+    let d : loopPairs join (1 ∷ length rows ∷ 0 ∷ 0 ∷ 0 ∷ []) rows l r t ≡ cellPairs join (set rows (length rows) 1) (l + 0 * 0) (r + 0 * 0) (t + 0 * 0) = append-nil _ in
+    let f : cellPairs join (set rows (length rows) 1) (l + 0 * 0) (r + 0 * 0) (t + 0 * 0) ≡ cellPairs join rows l r t = λ i. cellPairs join (set-out rows (length rows) 1 (le-refl (length rows)) i) (same l i) (same r i) (same t i) in
+    e ∙ ap (λ ps. walk ps s) (d ∙ f ∙ sym (alone loops k))
+  where
+    same : (x : ℕ) → x + 0 * 0 ≡ x
+    same x = omega arith
+
+    alone : (loops : List ℕ) → length loops < 5 → loopPairs join loops rows l r t ≡ cellPairs join rows l r t
+    alone [] k = refl
+    alone (n ∷ []) k = refl
+    alone (n ∷ p ∷ []) k = refl
+    alone (n ∷ p ∷ a ∷ []) k = refl
+    alone (n ∷ p ∷ a ∷ b ∷ []) k = refl
+    alone (n ∷ p ∷ a ∷ b ∷ c ∷ loops) k = absurd (omega arith)

@@ -1,0 +1,4 @@
+pub mod Walk
+pub mod Loops
+pub mod Flat
+pub mod Join

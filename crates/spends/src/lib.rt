@@ -1,0 +1,102 @@
+// The pairs of a table's joins, one join after the other, with a skip and a budget.
+ghost use mathlib.Core.Path.{_≡_};
+ghost use Prim.Native.Nat.{ℕ, _+_, _-_, _≤_, _<_};
+ghost use lib.ListN.{length, getD};
+ghost use Rattle.calls.specs.Asked.{cellsIn, pairsListed};
+ghost use Rattle.plan.specs.Asking.{Prepared};
+ghost use Rattle.plan.specs.Table.{windowsIn};
+ghost use Rattle.joins.specs.Walk.{state, walk};
+ghost use Rattle.spends.specs.Joins.{JoinIn, NodeIn, joinPairs, nodePairs};
+use cellsums::Part;
+use joins::Join;
+use joins::Quota;
+use modelfile::Model;
+use plan::Chains;
+use plan::Node;
+use plan::Table;
+
+// The pairs of a join, from the table's entries of its children and its own.
+fn join_pairs(ch: Chains, left: Node, right: Node, own: Node, area: &mut [u64], q: Quota) -> Quota
+    requires { ⌜ JoinIn ch left right own (length (now area)) ⌝ }
+    ensures { λ e. ⌜ ((j : JoinIn ch left right own (length (now (area .entry)))) → state e (now (area .exit)) ≡ walk (joinPairs j) (state q (now (area .entry)))) ⌝ }
+{
+    let n = ch.count;
+    let windows = ch.windows;
+    let lefts = left.strides;
+    let rights = right.strides;
+    let owns = own.strides;
+    let parts = Join {
+        left: Part {
+            from: left.base,
+            to: left.base + left.cells,
+        },
+        right: Part {
+            from: right.base,
+            to: right.base + right.cells,
+        },
+        own: Part {
+            from: own.base,
+            to: own.base + own.cells,
+        },
+    };
+    joins::walk_join(area, &windows[0..n], &lefts[0..n], &rights[0..n], &owns[0..n], parts, q)
+}
+
+// A leaf has no pairs; a join whose pairs are all done is passed over by their number, and one that comes after the budget's end is left.
+fn node_pairs(ch: Chains, left: Node, right: Node, own: Node, area: &mut [u64], q: Quota) -> Quota
+    requires { ⌜ NodeIn ch left right own (length (now area)) ⌝ }
+    ensures { λ e. ⌜ ((x : NodeIn ch left right own (length (now (area .entry)))) → state e (now (area .exit)) ≡ walk (nodePairs x) (state q (now (area .entry)))) ⌝ }
+{
+    if own.centre != 0 {
+        return q;
+    }
+    if q.over {
+        return q;
+    }
+    let pairs = own.pairs as usize;
+    if pairs <= q.skip {
+        return Quota {
+            skip: q.skip - pairs,
+            budget: q.budget,
+            over: false,
+        };
+    }
+    if q.skip == 0 {
+        if q.budget == 0 {
+            return q;
+        }
+    }
+    join_pairs(ch, left, right, own, area, q)
+}
+
+// i less n, 0 where that is less than 0.
+fn back(i: usize, n: usize) -> usize
+    ensures { λ r. ⌜ r ≡ i - n ⌝ }
+{
+    if n <= i { i - n } else { 0 }
+}
+
+// The pairs of all joins, in order.
+pub fn spend(m: Model, windows: [usize; 8], t: Table, area: &mut [u64], q: Quota) -> Quota
+    requires { ⌜ Prepared m windows t ⌝ }
+    requires { ⌜ cellsIn m (windowsIn m windows) ≤ length (now area) ⌝ }
+    ensures { λ e. ⌜ state e (now (area .exit)) ≡ walk (pairsListed m (windowsIn m windows)) (state q (now (area .entry))) ⌝ }
+{
+    let ch = Chains {
+        count: m.chains,
+        totals: t.totals,
+        windows,
+    };
+    let mut e = q;
+    let mut i = 0;
+    while i < t.count {
+        let r = back(i, 1);
+        let right = t.nodes[r];
+        let l = back(r, right.span);
+        let left = t.nodes[l];
+        let own = t.nodes[i];
+        e = node_pairs(ch, left, right, own, area, e);
+        i += 1;
+    }
+    e
+}
