@@ -19,7 +19,7 @@ use plan::Chains;
 use plan::Node;
 use plan::Table;
 
-fn clear(part: &mut [u64])
+pub fn clear(part: &mut [u64])
     ensures { λ _. ⌜ now (part .exit) ≡ replicate (length (now (part .entry))) 0 ⌝ }
 {
     let mut i = 0;
