@@ -91,9 +91,9 @@ pub fn fill(rows: &[u64], m: Model, windows: [usize; 8], t: Table, area: &mut [u
         totals,
         windows,
     };
-    let mut i = 0;
-    while i < t.count {
-        write_node(rows, &loads, ch, nodes[i], area);
-        i += 1;
+    let mut next = 0;
+    while next < t.count {
+        write_node(rows, &loads, ch, nodes[next], area);
+        next += 1;
     }
 }

@@ -9,10 +9,10 @@ use Rattle.runs.proofs.fill.fill.Statement.{statement}
 use Rattle.runs.proofs.fill.fill.Tie as tie
 
 abbrev Inv-loop : tie.InvT-loop
-Inv-loop rows t area₀ loads nodes ch i₀ area i = Written loads ch t area₀ area i
+Inv-loop rows t area₀ loads nodes ch next₀ area next = Written loads ch t area₀ area next
 
 abbrev μ-loop : tie.MeasureT-loop
-μ-loop rows t area₀ loads nodes ch i₀ area i = t .count - i
+μ-loop rows t area₀ loads nodes ch next₀ area next = t .count - next
 
 loop-holds : tie.Need-loop-holds Inv-loop μ-loop
 loop-holds c = written-first _ _ _ _
@@ -34,8 +34,8 @@ write-node-requires c κs =
     let h = c .before .before .before .if1 .taken in
     ((s .pre .0 .0, node-ready _ (s .args .windows) _ (s .pre .0 .1) _ h), (next-room _ (s .args .windows) _ (s .pre .0 .1) h (c .before .before .before .before .before .loop .inv) (s .pre .1 .0), next-low _ (s .args .windows) _ (s .pre .0 .1) h (s .pre .1 .1)))
 
-add-i : tie.Need-add-i Inv-loop μ-loop
-add-i c = search needs
+add-next : tie.Need-add-next Inv-loop μ-loop
+add-next c = search needs
 
 loop-less : tie.Need-loop-less Inv-loop μ-loop
 loop-less c = search needs
@@ -62,7 +62,7 @@ fill-spec =
     mul-write-node
     array-copy-out-write-node
     write-node-requires
-    add-i
+    add-next
     loop-less
     loop-again
     same-length
