@@ -70,8 +70,8 @@ loop-less c = search needs
 
 loop-again : tie.Need-loop-again Inv-loop μ-loop
 loop-again c = (
-  end-turn lowest (c .before .before .before .before .before .before .before .before .args .ch) (c .before .before .before .before .before .before .before .before .args .t2) _ (c .before .before .before .before .before .loop .inv .0) (c .before .before .before .if1 .taken) (c .before .before .before .before .before .before .before .before .pre .0 .chains-few) (c .before .before .coverage .ensures) (c .before .low-end .ensures),
-  end-turn highest (c .before .before .before .before .before .before .before .before .args .ch) (c .before .before .before .before .before .before .before .before .args .t2) _ (c .before .before .before .before .before .loop .inv .1) (c .before .before .before .if1 .taken) (c .before .before .before .before .before .before .before .before .pre .0 .chains-few) (c .before .before .coverage .ensures) (c .high-end .ensures),
+  end-turn lowest (c .before .before .before .before .before .before .before .before .args .ch) (c .before .before .before .before .before .before .before .before .args .t2) _ (c .before .before .before .before .before .loop .inv .0) (c .before .before .before .if1 .taken) (c .before .before .before .before .before .before .before .before .pre .chains-few) (c .before .before .coverage .ensures) (c .before .low-end .ensures),
+  end-turn highest (c .before .before .before .before .before .before .before .before .args .ch) (c .before .before .before .before .before .before .before .before .args .t2) _ (c .before .before .before .before .before .loop .inv .1) (c .before .before .before .if1 .taken) (c .before .before .before .before .before .before .before .before .pre .chains-few) (c .before .before .coverage .ensures) (c .high-end .ensures),
 )
 
 returns : tie.Need-returns Inv-loop μ-loop
