@@ -1,7 +1,7 @@
 -- What a guaranteed model gives the table: its centres and routes by its loads, and its tree by its nodes.
 use Prim.Native.Nat.{ℕ, zero, suc, _+_, _-_, _*_, _≤_, _<_}
 use mathlib.Core.Path.{_≡_, sym, ap, _∙_}
-use mathlib.Core.List.{List, [], map}
+use mathlib.Core.List.{[], map}
 use native.Mathlib.Omega.{arith}
 use lib.ListN.{length, getD, take}
 use lib.Seq.{length-take-le}

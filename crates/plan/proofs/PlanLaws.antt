@@ -14,7 +14,7 @@ use Rattle.calls.specs.Plan.{plan}
 use Rattle.calls.specs.declared.PlanAnswer.{PlanAnswer}
 use Rattle.plan.specs.Table.{Tabled}
 use Rattle.plan.specs.Lowered.{askedOf, Lowered}
-use Rattle.plan.specs.Asking.{Prepared, RunFor}
+use Rattle.plan.specs.Asking.{RunFor}
 use Rattle.plan.specs.declared.Asked.{Asked}
 use Rattle.plan.specs.declared.Lowering.{Lowering}
 use Rattle.plan.specs.declared.Run.{Run}

@@ -1,13 +1,11 @@
 -- The ends of a node's spans, found chain by chain, are those of the spans by counting.
 use Prim.Native.Nat.{ℕ, zero, suc, _+_, _≤_, _<_}
 use mathlib.Core.Path.{_≡_, refl, ap, _∙_}
-use mathlib.Core.List.{List, [], _∷_, map}
-use native.Mathlib.Omega.{arith}
-use lib.ListN.{length, getD, set, take, replicate, length-map}
+use mathlib.Core.List.{List, _∷_, map}
+use lib.ListN.{getD, set, take, length-map}
 use lib.Seq.{take-at}
 use Rattle.sums.specs.Lists.{from}
 use Rattle.sums.proofs.ListLaws.{length-from}
-use Rattle.network.specs.Coverage.{Coverage}
 use Rattle.network.specs.Cells.{Span, span}
 use Rattle.network.proofs.CoverageLaws.{coverageByCount}
 use Rattle.plan.specs.Table.{padded, row}

@@ -87,9 +87,6 @@ module _ {A : Type 0} (g : A → List ℕ) (nodes : List A) (d : A) where
   unfolding flatMap
   filled-first old = record { is = refl }
 
-  pub filled-length : {old now : List ℕ} {i : ℕ} → Filled old now i → length (cellsTo i) ≤ length old → length now ≡ length old
-  filled-length {old} {now} {i} w h = ap length (w .is) ∙ length-append (cellsTo i) (drop (length (cellsTo i)) old) ∙ omega (arith, length-drop (length (cellsTo i)) old)
-
   pub filled-turn : {old now next : List ℕ} {i at : ℕ} → i < length nodes → at ≡ length (cellsTo i) → Filled old now i → next ≡ put at (g (getD nodes i d)) now → Filled old next (i + 1)
   unfolding put
   filled-turn {old} {now} {next} {i} {at} h ea w e =

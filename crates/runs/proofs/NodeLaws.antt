@@ -1,7 +1,7 @@
 -- A node's cells by its kind: those of a join are 0, and so not too large.
 use Prim.Native.Nat.{ℕ, zero, suc, _+_, _-_}
 use mathlib.Core.Path.{_≡_, refl, sym, ap, _∙_}
-use mathlib.Core.Bool.{Bool, false}
+use mathlib.Core.Bool.{false}
 use mathlib.Core.List.{List}
 use lib.ListN.{length, replicate, length-replicate}
 use borrow.Rule.Slice.PartMut.{putMid}

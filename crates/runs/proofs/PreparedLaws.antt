@@ -1,54 +1,38 @@
 -- The table of a prepared run, node by node: each node's cells as the code finds them are its array in what a start writes, and they begin
 -- where those of the nodes before it end.
-use Prim.Native.Nat.{ℕ, zero, suc, _+_, _-_, _*_, _≤_, _<_}
-use mathlib.Core.Path.{_≡_, refl, sym, ap, subst, _∙_}
-use mathlib.Core.List.{List, [], _∷_, _++_, map, flatMap, append-nil, List·Memᴰ, List·Memᴰ·head, List·Permᴰ}
+use Prim.Native.Nat.{ℕ, zero, suc, _+_, _-_, _≤_, _<_}
+use mathlib.Core.Path.{_≡_, refl, sym, ap, _∙_}
+use mathlib.Core.List.{List, [], map, flatMap, append-nil, List·Memᴰ, List·Memᴰ·head}
 use native.Mathlib.Omega.{arith}
 use native.Mathlib.Nat.{zero-add}
-use lib.ListN.{length, getD, take, drop, replicate, length-map}
+use lib.ListN.{length, getD, take, replicate, length-map}
 use lib.Seq.{length-take-le, getD-take, take-take, take-all}
 use Rattle.sums.specs.Lists.{from}
-use Rattle.sums.proofs.ListLaws.{flat-cong, getD-map-in, getD-in, take-member, from-out}
+use Rattle.sums.proofs.ListLaws.{flat-cong, flat-map, getD-map-in, getD-in, take-map, take-member, from-out, map-zero}
 use Rattle.sums.proofs.PermLaws.{perm-in}
-use Rattle.network.specs.Centre.{Route, Centre}
+use Rattle.network.specs.Centre.{Route}
 use Rattle.network.specs.Coverage.{Tree, leaf, join, under}
-use Rattle.network.specs.Cells.{indices, cells, spansAt, allCells, base, centreBy, startCell, filled}
+use Rattle.network.specs.Cells.{indices, cells, spansAt, base, centreBy, startCell, filled}
 use Rattle.network.specs.Weight.{weight}
 use Rattle.network.proofs.CoverageLaws.{Parted}
 use Rattle.network.proofs.CellLaws.{length-indices}
 use Rattle.network.proofs.PostorderLaws.{postorder, arrayOf, spread-postorder, parted-in, none}
-use Rattle.network.proofs.LayoutLaws.{length-array, base-at, room-at}
+use Rattle.network.proofs.LayoutLaws.{base-at, room-at}
 use Rattle.modelfile.specs.Network.{loadsOf, centresOf, treeOf}
 use Rattle.modelfile.specs.declared.Model.{Model}
 use Rattle.calls.specs.Asked.{cellsIn, filledBy}
 use Rattle.calls.proofs.FileLaws.{length-routes, length-loads, take-low}
-use Rattle.weights.specs.Leaf.{lowest, highest, LeafEnds}
 use Rattle.weights.proofs.SpanLaws.{leaf-ends}
 use Rattle.plan.specs.Table.{centreAt, countsAt, totalsOf, entry, windowsIn, routesIn}
 use Rattle.plan.specs.Steps.{Few, spansBy, noNode}
 use Rattle.plan.specs.Asking.{Prepared}
 use Rattle.plan.specs.declared.Chains.{Chains}
-use Rattle.plan.specs.declared.Node.{Node}
 use Rattle.plan.specs.declared.Table.{Table}
 use Rattle.plan.proofs.RowLaws.{length-row, take-is}
 use Rattle.plan.proofs.EntryLaws.{spans-are}
 use Rattle.plan.proofs.EntriesLaws.{entryOf, entries-postorder}
 use Rattle.plan.proofs.ModelLaws.{centre-at, route-at}
-use Rattle.runs.specs.Nodes.{spansIn, loadsIn, leafCells, cellsBy, nodeCells, LeafIn, NodeIn, chainsOf}
-
-flat-map : {A B C : Type 0} (g : B → List C) (e : A → B) (xs : List A) → flatMap g (map e xs) ≡ flatMap (λ x. g (e x)) xs
-unfolding flatMap
-flat-map g e [] = refl
-flat-map g e (x ∷ xs) = ap (λ l. g (e x) ++ l) (flat-map g e xs)
-
-take-map : {A B : Type 0} (e : A → B) (n : ℕ) (xs : List A) → take n (map e xs) ≡ map e (take n xs)
-take-map e zero xs = refl
-take-map e (suc n) [] = refl
-take-map e (suc n) (x ∷ xs) = ap (λ l. e x ∷ l) (take-map e n xs)
-
-all-zero : {A : Type 0} (xs : List A) → map {B = ℕ} (λ x. 0) xs ≡ replicate (length xs) 0
-all-zero [] = refl
-all-zero (x ∷ xs) = ap (λ l. 0 ∷ l) (all-zero xs)
+use Rattle.runs.specs.Nodes.{leafCells, cellsBy, nodeCells, LeafIn, NodeIn, chainsOf}
 
 module _ (m : Model) (windows : List ℕ) (t : Table) (p : Prepared m windows t) where
   abbrev ws : List ℕ
@@ -87,10 +71,9 @@ module _ (m : Model) (windows : List ℕ) (t : Table) (p : Prepared m windows t)
     centre-range = let r = from-out 1 (length routes) c (perm-in parted (List·Memᴰ·head refl)) in (omega arith, omega (arith, length-routes m (p .guaranteed)))
 
     leaf-in : (start : ℕ) → LeafIn (m .loads) ch (entry routes ws (leaf c) start)
-    unfolding entry centreAt countsAt loadsOf
+    unfolding entry centreAt loadsOf
     leaf-in start = record {
       few = few;
-      counts-long = length-row _ (length ws) (omega (arith, length-ws, p .guaranteed .chains-range));
       centre-range = (centre-range .0, omega (arith, centre-range, p .guaranteed .centres-range));
       loads-long = p .guaranteed .loads-long;
       ends = rw (spans-at (leaf c) rest parted) (leaf-ends routes ws (loadsOf m c) c (omega (arith, length-ws, p .guaranteed .chains-range)) (long c centre-range ∙ sym length-ws) low (route-at m (p .guaranteed) c (centre-range .0) (centre-range .1)));
@@ -120,7 +103,7 @@ module _ (m : Model) (windows : List ℕ) (t : Table) (p : Prepared m windows t)
         leaf-is : (c : ℕ) → 1 ≤ c → cellsBy c (replicate (cells (spansAt routes ws (leaf c))) 0) (leafCells (m .loads) ch (entry routes ws (leaf c) start)) ≡ leafCells (m .loads) ch (entry routes ws (leaf c) start)
         leaf-is zero h = absurd (omega arith)
         leaf-is (suc c) h = refl
-    node-cells (join l r) rest parted = sym (all-zero (indices (spansAt routes ws (join l r))) ∙ ap (λ n. replicate n 0) (length-indices (spansAt routes ws (join l r))))
+    node-cells (join l r) rest parted = sym (map-zero (indices (spansAt routes ws (join l r))) ∙ ap (λ n. replicate n 0) (length-indices (spansAt routes ws (join l r))))
 
     node-in : (x : Tree) (rest : List ℕ) → Parted routes (under x) rest → NodeIn (m .loads) ch (entry routes ws x start)
     unfolding entry centreAt

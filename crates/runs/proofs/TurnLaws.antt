@@ -19,7 +19,7 @@ use Rattle.plan.specs.declared.Chains.{Chains}
 use Rattle.plan.specs.declared.Node.{Node}
 use Rattle.plan.specs.declared.Table.{Table}
 use Rattle.runs.specs.Nodes.{nodeCells, put, chainsOf}
-use Rattle.runs.proofs.FillLaws.{cellsTo, none-first, none-more, some-found, none-at, Filled, filled-first, filled-length, filled-turn}
+use Rattle.runs.proofs.FillLaws.{cellsTo, none-first, none-more, some-found, none-at, Filled, filled-first, filled-turn}
 use Rattle.runs.proofs.PreparedLaws.{count-low, filled-is, node-base, node-room}
 
 abbrev pub nodeAt : Table → ℕ → Node

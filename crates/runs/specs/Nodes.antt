@@ -47,7 +47,6 @@ put at cells area = take at area ++ (cells ++ drop (at + length cells) area)
 -- a leaf whose cells can be written
 pub record LeafIn (loads : List ℕ) (ch : Chains) (n : Node) : Type 0 where
   pub few : Few ch
-  pub counts-long : length (n .counts) ≡ 8
   pub centre-range : (1 ≤ n .centre) × (n .centre ≤ 16)
   pub loads-long : length loads ≡ 128
   pub ends : LeafEnds (loadsIn loads ch n) (map lowest (spansIn ch n)) (map highest (spansIn ch n))

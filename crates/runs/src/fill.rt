@@ -19,7 +19,7 @@ use plan::Chains;
 use plan::Node;
 use plan::Table;
 
-fn clear(part: &mut [u64])
+pub fn clear(part: &mut [u64])
     ensures { λ _. ⌜ now (part .exit) ≡ replicate (length (now (part .entry))) 0 ⌝ }
 {
     let mut i = 0;
@@ -91,9 +91,9 @@ pub fn fill(rows: &[u64], m: Model, windows: [usize; 8], t: Table, area: &mut [u
         totals,
         windows,
     };
-    let mut i = 0;
-    while i < t.count {
-        write_node(rows, &loads, ch, nodes[i], area);
-        i += 1;
+    let mut next = 0;
+    while next < t.count {
+        write_node(rows, &loads, ch, nodes[next], area);
+        next += 1;
     }
 }

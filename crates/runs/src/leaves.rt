@@ -41,7 +41,7 @@ fn high_end(c: Cover, window: usize) -> usize
 }
 
 fn ends_of(ch: Chains, counts: [usize; 8]) -> Ends
-    requires { ⌜ Few ch × (length counts ≡ 8) ⌝ }
+    requires { ⌜ Few ch ⌝ }
     ensures { λ r. ⌜ r ≡ endsBy ch counts ⌝ }
 {
     let totals = ch.totals;

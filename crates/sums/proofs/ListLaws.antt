@@ -6,7 +6,7 @@ use mathlib.Core.HLevel.{⊥-prop}
 use mathlib.Core.List.{List, [], _∷_, _++_, map, flatMap, append-assoc, List·Mem, List·Memᴰ, List·Memᴰ·head, List·Memᴰ·tail, List·Memᴰ·cases-cons, List·Memᴰ·append-cases, List·Memᴰ·not-nil, Memᴰ·append-left, Memᴰ·append-right, Memᴰ·map, Memᴰ·of-map, Memᴰ·cast, List·Nodup, nodup-nil, nodup-cons}
 use native.Mathlib.Omega.{arith}
 use native.Mathlib.Nat.{zero-mul, add-zero}
-use lib.ListN.{length, getD, take, drop, take-append-drop, length-append, length-map, List·getD-append}
+use lib.ListN.{length, getD, take, drop, replicate, take-append-drop, length-append, length-map, List·getD-append}
 use lib.Seq.{getD-append-add}
 use Rattle.sums.specs.Lists.{from}
 
@@ -18,6 +18,11 @@ module _ {A B : Type 0} where
   pub map-cong : (xs : List A) (f g : A → B) → ((a : A) → List·Memᴰ a xs → f a ≡ g a) → map f xs ≡ map g xs
   map-cong [] f g h = refl
   map-cong (x ∷ xs) f g h = λ i. h x (List·Memᴰ·head refl) i ∷ map-cong xs f g (λ a n. h a (List·Memᴰ·tail n)) i
+
+  pub take-map : (f : A → B) (n : ℕ) (xs : List A) → take n (map f xs) ≡ map f (take n xs)
+  take-map f zero xs = refl
+  take-map f (suc n) [] = refl
+  take-map f (suc n) (x ∷ xs) = ap (λ l. f x ∷ l) (take-map f n xs)
 
   pub getD-map-in : (f : A → B) (l : List A) (n : ℕ) (d : B) (c : A) → n < length l → getD (map f l) n d ≡ f (getD l n c)
   getD-map-in f [] n d c h = absurd (omega arith)
@@ -66,6 +71,15 @@ module _ {A B : Type 0} where
   getD-flat g m e (x ∷ xs) a b (suc d) p h k =
       let q : suc d * m + p ≡ length (g x) + (d * m + p) = omega (arith, e x) in
       rw q (getD-append-add (g x) (flatMap g xs) (d * m + p) b ∙ getD-flat g m e xs a b d p (omega arith) k)
+
+pub flat-map : {A B C : Type 0} (g : B → List C) (f : A → B) (xs : List A) → flatMap g (map f xs) ≡ flatMap (λ x. g (f x)) xs
+unfolding flatMap
+flat-map g f [] = refl
+flat-map g f (x ∷ xs) = ap (λ l. g (f x) ++ l) (flat-map g f xs)
+
+pub map-zero : {A : Type 0} (xs : List A) → map {B = ℕ} (λ x. 0) xs ≡ replicate (length xs) 0
+map-zero [] = refl
+map-zero (x ∷ xs) = ap (λ l. 0 ∷ l) (map-zero xs)
 
 -- what stands in a list is a member
 pub getD-in : {A : Type 0} (d : A) (xs : List A) (i : ℕ) → i < length xs → List·Memᴰ (getD xs i d) xs

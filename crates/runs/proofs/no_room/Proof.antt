@@ -2,14 +2,10 @@
 use borrow.Author.Tests.{lt-ltb, le-ltb}
 use Rattle.runs.proofs.no_room.Statement.{statement}
 use Rattle.runs.proofs.no_room.Tie as tie
-use Rattle.runs.proofs.no_room.Reads as reads
-use Rattle.runs.proofs.no_room.Lts as lts
 
--- src/lib.rt:24:9
 returns : tie.Need-returns
 returns c = simp (lt-ltb _ _ (c .if1 .taken))
 
--- src/lib.rt:20:1
 returns-2 : tie.Need-returns-2
 returns-2 c = simp (le-ltb _ _ (c .if1 .left))
 

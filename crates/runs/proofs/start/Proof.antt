@@ -4,36 +4,25 @@ use Rattle.runs.proofs.StartLaws.{left-is, start-refused, start-granted
 use borrow.Author.Needs.{needs}
 use Rattle.runs.proofs.start.Statement.{statement}
 use Rattle.runs.proofs.start.Tie as tie
-use Rattle.runs.proofs.start.Reads as reads
-use Rattle.runs.proofs.start.Lts as lts
-use Rattle.plan.proofs.asking.prepare.Reads as prepare-reads
-use Rattle.runs.proofs.start_in.Reads as start-in-reads
 
--- src/lib.rt:56:9
 prepare-requires : tie.Need-prepare-requires
 prepare-requires c κs = search needs
 
--- src/lib.rt:62:26
 enum-known-asked : tie.Need-enum-known-asked
 enum-known-asked c = search needs
 
--- src/lib.rt:63:51
 enum-told : tie.Need-enum-told
 enum-told c = search needs
 
--- src/lib.rt:63:27
 start-in-requires : tie.Need-start-in-requires
 start-in-requires c κs = c .before .before .before .before .before .before .prepare .ensures .prepared (c .before .enum-told .given .1)
 
--- src/lib.rt:52:1
 returns : tie.Need-returns
 returns c = left-is (start-refused _ _ _ _ (c .before .before .before .before .before .before .prepare .ensures) (c .before .asked .given .1)) (refl, refl)
 
--- src/lib.rt:52:1
 same-length : tie.Need-same-length
 same-length c = search needs
 
--- src/lib.rt:52:1
 returns-2 : tie.Need-returns-2
 returns-2 c = left-is (start-granted _ _ _ _ (c .before .before .before .before .before .before .before .before .before .prepare .ensures) (c .before .before .before .before .enum-told .given .1)) (c .before .before .start-in .ensures)
 

@@ -5,19 +5,13 @@ use Rattle.calls.specs.Start.{tooLarge}
 use Rattle.runs.proofs.NodeLaws.{leaf-cells, join-low}
 use Rattle.runs.proofs.fill.node_too_large.Statement.{statement}
 use Rattle.runs.proofs.fill.node_too_large.Tie as tie
-use Rattle.runs.proofs.fill.node_too_large.Reads as reads
-use Rattle.runs.proofs.fill.node_too_large.Lts as lts
-use Rattle.runs.proofs.leaves.leaf_too_large.Reads as leaf-too-large-reads
 
--- src/fill.rt:37:9
 returns : tie.Need-returns
 returns c = join-low _ _ _ (c .if1 .taken)
 
--- src/fill.rt:39:5
 leaf-too-large-requires : tie.Need-leaf-too-large-requires
 leaf-too-large-requires c κs = (c .before .before .before .before .pre .0, c .before .before .before .before .pre .1 (c .if1 .left))
 
--- src/fill.rt:32:1
 returns-2 : tie.Need-returns-2
 returns-2 c = c .leaf-too-large .ensures ∙ ap (some tooLarge) (sym (leaf-cells _ _ _ (c .before .if1 .left)))
 

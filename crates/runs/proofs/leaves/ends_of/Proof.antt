@@ -1,3 +1,4 @@
+-- `ends_of` meets its contract: the ends of the chains passed stand in their rows.
 use Prim.Native.Nat.{_-_}
 use borrow.Author.Needs.{needs}
 use Rattle.weights.specs.Leaf.{lowest, highest}
@@ -6,11 +7,6 @@ use Rattle.runs.specs.Nodes.{spanAt, endsBy}
 use Rattle.runs.proofs.EndLaws.{end-turn}
 use Rattle.runs.proofs.leaves.ends_of.Statement.{statement}
 use Rattle.runs.proofs.leaves.ends_of.Tie as tie
-use Rattle.runs.proofs.leaves.ends_of.Reads as reads
-use Rattle.runs.proofs.leaves.ends_of.Lts as lts
-use Rattle.plan.proofs.coverage.coverage.Reads as coverage-reads
-use Rattle.runs.proofs.leaves.high_end.Reads as high-end-reads
-use Rattle.runs.proofs.leaves.low_end.Reads as low-end-reads
 
 abbrev Inv-loop : tie.InvT-loop
 Inv-loop ch counts totals windows lows₀ highs₀ k₀ lows highs k = Rowed (λ i. lowest (spanAt ch counts i)) (ch .count) lows k × Rowed (λ i. highest (spanAt ch counts i)) (ch .count) highs k
@@ -18,86 +14,66 @@ Inv-loop ch counts totals windows lows₀ highs₀ k₀ lows highs k = Rowed (λ
 abbrev μ-loop : tie.MeasureT-loop
 μ-loop ch counts totals windows lows₀ highs₀ k₀ lows highs k = ch .count - k
 
--- src/leaves.rt:52:5
 loop-holds : tie.Need-loop-holds Inv-loop μ-loop
 loop-holds c = (rowed-first _ _, rowed-first _ _)
 
--- src/leaves.rt:53:46
 mul-coverage : tie.Need-mul-coverage Inv-loop μ-loop
 mul-coverage c = search needs
 
--- src/leaves.rt:53:46
 array-read-coverage : tie.Need-array-read-coverage Inv-loop μ-loop
 array-read-coverage c = search needs
 
--- src/leaves.rt:53:57
 mul-coverage-2 : tie.Need-mul-coverage-2 Inv-loop μ-loop
 mul-coverage-2 c = search needs
 
--- src/leaves.rt:53:57
 array-read-coverage-2 : tie.Need-array-read-coverage-2 Inv-loop μ-loop
 array-read-coverage-2 c = search needs
 
--- src/leaves.rt:53:13
 coverage-requires : tie.Need-coverage-requires Inv-loop μ-loop
 coverage-requires c κs = search needs
 
--- src/leaves.rt:54:34
 mul-low-end : tie.Need-mul-low-end Inv-loop μ-loop
 mul-low-end c = search needs
 
--- src/leaves.rt:54:34
 array-read-low-end : tie.Need-array-read-low-end Inv-loop μ-loop
 array-read-low-end c = search needs
 
--- src/leaves.rt:54:19
 low-end-requires : tie.Need-low-end-requires Inv-loop μ-loop
 low-end-requires c κs = search needs
 
--- src/leaves.rt:54:9
 mul-lows : tie.Need-mul-lows Inv-loop μ-loop
 mul-lows c = search needs
 
--- src/leaves.rt:54:9
 array-write-lows : tie.Need-array-write-lows Inv-loop μ-loop
 array-write-lows c = search needs
 
--- src/leaves.rt:55:36
 mul-high-end : tie.Need-mul-high-end Inv-loop μ-loop
 mul-high-end c = search needs
 
--- src/leaves.rt:55:36
 array-read-high-end : tie.Need-array-read-high-end Inv-loop μ-loop
 array-read-high-end c = search needs
 
--- src/leaves.rt:55:20
 high-end-requires : tie.Need-high-end-requires Inv-loop μ-loop
 high-end-requires c κs = search needs
 
--- src/leaves.rt:55:9
 mul-highs : tie.Need-mul-highs Inv-loop μ-loop
 mul-highs c = search needs
 
--- src/leaves.rt:55:9
 array-write-highs : tie.Need-array-write-highs Inv-loop μ-loop
 array-write-highs c = search needs
 
--- src/leaves.rt:56:9
 add-k : tie.Need-add-k Inv-loop μ-loop
 add-k c = search needs
 
--- src/leaves.rt:52:5
 loop-less : tie.Need-loop-less Inv-loop μ-loop
 loop-less c = search needs
 
--- src/leaves.rt:52:5
 loop-again : tie.Need-loop-again Inv-loop μ-loop
 loop-again c = (
-  end-turn lowest (c .before .before .before .before .before .before .before .before .args .ch) (c .before .before .before .before .before .before .before .before .args .t2) _ (c .before .before .before .before .before .loop .inv .0) (c .before .before .before .if1 .taken) (c .before .before .before .before .before .before .before .before .pre .0 .chains-few) (c .before .before .coverage .ensures) (c .before .low-end .ensures),
-  end-turn highest (c .before .before .before .before .before .before .before .before .args .ch) (c .before .before .before .before .before .before .before .before .args .t2) _ (c .before .before .before .before .before .loop .inv .1) (c .before .before .before .if1 .taken) (c .before .before .before .before .before .before .before .before .pre .0 .chains-few) (c .before .before .coverage .ensures) (c .high-end .ensures),
+  end-turn lowest (c .before .before .before .before .before .before .before .before .args .ch) (c .before .before .before .before .before .before .before .before .args .t2) _ (c .before .before .before .before .before .loop .inv .0) (c .before .before .before .if1 .taken) (c .before .before .before .before .before .before .before .before .pre .chains-few) (c .before .before .coverage .ensures) (c .before .low-end .ensures),
+  end-turn highest (c .before .before .before .before .before .before .before .before .args .ch) (c .before .before .before .before .before .before .before .before .args .t2) _ (c .before .before .before .before .before .loop .inv .1) (c .before .before .before .if1 .taken) (c .before .before .before .before .before .before .before .before .pre .chains-few) (c .before .before .coverage .ensures) (c .high-end .ensures),
 )
 
--- src/leaves.rt:43:1
 returns : tie.Need-returns Inv-loop μ-loop
 unfolding endsBy
 returns c = λ i. record { lows = rowed-last _ _ (c .before .before .loop .inv .0) (c .if1 .left) i; highs = rowed-last _ _ (c .before .before .loop .inv .1) (c .if1 .left) i }

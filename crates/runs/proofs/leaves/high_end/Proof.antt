@@ -1,35 +1,28 @@
+-- `high_end` meets its contract: case by case.
 use Rattle.network.specs.Cells.{span}
 use Rattle.weights.specs.Leaf.{highest}
 use Rattle.plan.specs.Steps.{covering}
 use borrow.Author.Needs.{needs}
 use Rattle.runs.proofs.leaves.high_end.Statement.{statement}
 use Rattle.runs.proofs.leaves.high_end.Tie as tie
-use Rattle.runs.proofs.leaves.high_end.Reads as reads
-use Rattle.runs.proofs.leaves.high_end.Lts as lts
 
--- src/leaves.rt:37:28
 enum-told : tie.Need-enum-told
 enum-told c = search needs
 
--- src/leaves.rt:38:27
 enum-told-2 : tie.Need-enum-told-2
 enum-told-2 c = search needs
 
--- src/leaves.rt:39:26
 enum-told-3 : tie.Need-enum-told-3
 enum-told-3 c = search needs
 
--- src/leaves.rt:33:1
 returns : tie.Need-returns
 unfolding highest span covering
 returns c = search needs
 
--- src/leaves.rt:33:1
 returns-2 : tie.Need-returns-2
 unfolding highest span covering
 returns-2 c = search needs
 
--- src/leaves.rt:33:1
 returns-3 : tie.Need-returns-3
 unfolding highest span covering
 returns-3 c = search needs

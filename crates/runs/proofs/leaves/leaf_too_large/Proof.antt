@@ -1,3 +1,4 @@
+-- `leaf_too_large` meets its contract: the part of the loads and the ends lent are the leaf's.
 use mathlib.Core.Path.{ap, _∙_}
 use Rattle.sums.specs.Lists.{some}
 use Rattle.calls.specs.Start.{tooLarge}
@@ -5,64 +6,48 @@ use Rattle.runs.proofs.LeafLaws.{lows-room, lows-length, highs-room, hi
 use borrow.Author.Needs.{needs}
 use Rattle.runs.proofs.leaves.leaf_too_large.Statement.{statement}
 use Rattle.runs.proofs.leaves.leaf_too_large.Tie as tie
-use Rattle.runs.proofs.leaves.leaf_too_large.Reads as reads
-use Rattle.runs.proofs.leaves.leaf_too_large.Lts as lts
-use Rattle.runs.proofs.leaves.ends_of.Reads as ends-of-reads
-use Rattle.weights.proofs.some_too_large.Reads as some-too-large-reads
 
--- src/leaves.rt:66:9
 ends-of-requires : tie.Need-ends-of-requires
 ends-of-requires c κs = search needs
 
--- src/leaves.rt:70:14
 sub-a : tie.Need-sub-a
 sub-a c = search needs
 
--- src/leaves.rt:70:13
 mul-a : tie.Need-mul-a
 mul-a c = search needs
 
--- src/leaves.rt:71:13
 add-b : tie.Need-add-b
 add-b c = search needs
 
--- src/leaves.rt:72:35
 mul-some-too-large : tie.Need-mul-some-too-large
 mul-some-too-large c = search needs
 
--- src/leaves.rt:72:35
 sub-some-too-large : tie.Need-sub-some-too-large
 sub-some-too-large c = search needs
 
--- src/leaves.rt:72:35
 part-some-too-large-start : tie.Need-part-some-too-large-start
 part-some-too-large-start c = search needs
 
--- src/leaves.rt:72:35
 part-some-too-large-end : tie.Need-part-some-too-large-end
 part-some-too-large-end c = search needs
 
--- src/leaves.rt:72:49
 array-share-prefix-lows : tie.Need-array-share-prefix-lows
 array-share-prefix-lows c = lows-room _ _ _ (c .before .before .before .before .before .before .before .before .pre .1) _ (c .before .before .before .before .ends-of .ensures)
 
--- src/leaves.rt:72:49
 slice-aggregate-some-too-large : tie.Need-slice-aggregate-some-too-large
 slice-aggregate-some-too-large c = lows-length _ _ _ (c .before .before .before .before .before .before .before .before .before .pre .1) _ (c .before .before .before .before .before .ends-of .ensures)
 
--- src/leaves.rt:72:61
 array-share-prefix-highs : tie.Need-array-share-prefix-highs
 array-share-prefix-highs c = highs-room _ _ _ (c .before .before .before .before .before .before .before .before .before .pre .1) _ (c .before .before .before .before .before .ends-of .ensures)
 
--- src/leaves.rt:72:61
 slice-aggregate-some-too-large-2 : tie.Need-slice-aggregate-some-too-large-2
 slice-aggregate-some-too-large-2 c = highs-length _ _ _ (c .before .before .before .before .before .before .before .before .before .before .pre .1) _ (c .before .before .before .before .before .before .ends-of .ensures)
 
--- src/leaves.rt:72:5
 some-too-large-requires : tie.Need-some-too-large-requires
-some-too-large-requires c κs = (c .before .before .before .before .before .before .before .before .before .before .pre .0, part-ends _ _ _ (c .before .before .before .before .before .before .before .before .before .before .pre .1) _ (c .before .before .before .before .before .before .ends-of .ensures))
+some-too-large-requires c κs =
+    let s = c .before .before .before .before .before .before .before .before .before .before in
+    (s .pre .0, part-ends _ _ _ (s .pre .1) _ (c .before .before .before .before .before .before .ends-of .ensures))
 
--- src/leaves.rt:61:1
 returns : tie.Need-returns
 returns c = c .some-too-large .ensures ∙ ap (some tooLarge) (part-cells _ _ _ (c .before .before .before .before .before .before .before .before .before .before .before .pre .1) _ (c .before .before .before .before .before .before .before .ends-of .ensures))
 

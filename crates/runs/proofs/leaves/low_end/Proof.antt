@@ -1,35 +1,28 @@
+-- `low_end` meets its contract: case by case.
 use Rattle.network.specs.Cells.{span}
 use Rattle.weights.specs.Leaf.{lowest}
 use Rattle.plan.specs.Steps.{covering}
 use borrow.Author.Needs.{needs}
 use Rattle.runs.proofs.leaves.low_end.Statement.{statement}
 use Rattle.runs.proofs.leaves.low_end.Tie as tie
-use Rattle.runs.proofs.leaves.low_end.Reads as reads
-use Rattle.runs.proofs.leaves.low_end.Lts as lts
 
--- src/leaves.rt:27:28
 enum-told : tie.Need-enum-told
 enum-told c = search needs
 
--- src/leaves.rt:28:27
 enum-told-2 : tie.Need-enum-told-2
 enum-told-2 c = search needs
 
--- src/leaves.rt:29:26
 enum-told-3 : tie.Need-enum-told-3
 enum-told-3 c = search needs
 
--- src/leaves.rt:23:1
 returns : tie.Need-returns
 unfolding lowest span covering
 returns c = search needs
 
--- src/leaves.rt:23:1
 returns-2 : tie.Need-returns-2
 unfolding lowest span covering
 returns-2 c = search needs
 
--- src/leaves.rt:23:1
 returns-3 : tie.Need-returns-3
 unfolding lowest span covering
 returns-3 c = search needs
