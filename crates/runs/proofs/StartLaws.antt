@@ -27,7 +27,7 @@ module _ (m : Model) (windows : List ℕ) (t : Table) (p : Prepared m windows t)
   abbrev ws : List ℕ
   ws = windowsIn m windows
 
-  room-is : noRoom (cellsIn m ws) area ≡ full
+  pub room-is : noRoom (cellsIn m ws) area ≡ full
   unfolding noRoom
   room-is = sym (e ∙ ap (λ n. ltb 8192 n || ltb (length area) n) (p .tabled .cells-are))
 

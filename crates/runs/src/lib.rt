@@ -1,4 +1,5 @@
-// The calls that run over an area: start.
+// The calls that run over an area: start and advance.
+pub mod advance; // advance.rt: the advance call
 pub mod fill; // fill.rt: what a start writes, node by node
 pub mod leaves; // leaves.rt: the cells of one leaf
 

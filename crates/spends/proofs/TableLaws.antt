@@ -140,23 +140,25 @@ module _ {m : Model} {windows : List ℕ} {t : Table} (p : Prepared m windows t)
             let k = children (routesIn m) (windowsIn m windows) (treeOf m) 0 i (omega (arith, length-nodes, length-postorder (routesIn m) (windowsIn m windows) (treeOf m) 0)) x y start e in
             let second : ℕ = start + allCells (routesIn m) (windowsIn m windows) x in
             let right : nodeAt t r ≡ entryOf (routesIn m) (windowsIn m windows) (y, second) = ap (nodeAt t) a ∙ entry-at (i - 1) (omega (arith, k .enough, nodes-some x)) _ (k .right) in
-            let place : l ≡ i - 1 - nodesIn y = b ∙ (λ j. a j - (ap (λ e. e .span) right ∙ span-at (y, second)) j) in
-            (NodeIn.joined (record {
-              routes = routesIn m;
-              windows = windowsIn m windows;
-              l = x;
-              r = y;
-              start = start;
-              few = few;
-              count-is = sym length-windows;
-              windows-are = refl;
-              left-is = ap (nodeAt t) place ∙ entry-at (i - 1 - nodesIn y) (omega (arith, k .enough, nodes-some x)) _ (k .left);
-              right-is = right;
-              own-is = entry-at i h (join x y, start) e;
-              rest = parted .0;
-              parted = parted .1;
-              room = omega (arith, low, room, same);
-            }), refl)
+            let place : l ≡ i - 1 - nodesIn y = b ∙ (λ j. a j - (ap (λ e. e .span) right ∙ span-at (y, second)) j) in (
+              NodeIn.joined (record {
+                routes = routesIn m;
+                windows = windowsIn m windows;
+                l = x;
+                r = y;
+                start = start;
+                few = few;
+                count-is = sym length-windows;
+                windows-are = refl;
+                left-is = ap (nodeAt t) place ∙ entry-at (i - 1 - nodesIn y) (omega (arith, k .enough, nodes-some x)) _ (k .left);
+                right-is = right;
+                own-is = entry-at i h (join x y, start) e;
+                rest = parted .0;
+                parted = parted .1;
+                room = omega (arith, low, room, same);
+              }),
+              refl,
+            )
 
     pairs-more : pairsTo m windows (i + 1) ≡ pairsTo m windows i ++ pairsOf (routesIn m) (windowsIn m windows) (getD (nodesOf m windows) i nowhere)
     unfolding flatMap
@@ -194,13 +196,13 @@ module _ {t : Table} {ch : Chains} {q : Quota} {old : List ℕ} {e : Quota} {are
     low = omega arith;
     long = long ∙ w .long;
     is = λ m windows p c room.
-      let x : Tree × ℕ = getD (nodesOf m windows) i nowhere in
-      let y : (y : NodeIn ch (nodeAt t l) (nodeAt t r) (nodeAt t i) (length area)) × (nodePairs y ≡ pairsOf (routesIn m) (windowsIn m windows) x) =
-      subst (λ ch. (y : NodeIn ch (nodeAt t l) (nodeAt t r) (nodeAt t i) (length area)) × (nodePairs y ≡ pairsOf (routesIn m) (windowsIn m windows) x)) c (node-in p i h r l a b (length area) (length old) (w .long) room) in
-      gives (y .0)
-      ∙ (λ k. walk (y .1 k) (w .is m windows p c room k))
-      ∙ sym (walk-append (pairsTo m windows i) (pairsOf (routesIn m) (windowsIn m windows) x) (state q old))
-      ∙ ap (λ ps. walk ps (state q old)) (sym (pairs-more p i h));
+        let x : Tree × ℕ = getD (nodesOf m windows) i nowhere in
+        let y : (y : NodeIn ch (nodeAt t l) (nodeAt t r) (nodeAt t i) (length area)) × (nodePairs y ≡ pairsOf (routesIn m) (windowsIn m windows) x) =
+        subst (λ ch. (y : NodeIn ch (nodeAt t l) (nodeAt t r) (nodeAt t i) (length area)) × (nodePairs y ≡ pairsOf (routesIn m) (windowsIn m windows) x)) c (node-in p i h r l a b (length area) (length old) (w .long) room) in
+        gives (y .0)
+        ∙ (λ k. walk (y .1 k) (w .is m windows p c room k))
+        ∙ sym (walk-append (pairsTo m windows i) (pairsOf (routesIn m) (windowsIn m windows) x) (state q old))
+        ∙ ap (λ ps. walk ps (state q old)) (sym (pairs-more p i h));
   }
 
   pub walked-last : (m : Model) (windows : List ℕ) → Prepared m windows t → chainsOf m windows t ≡ ch → cellsIn m (windowsIn m windows) ≤ length old → t .count ≤ i → state e area ≡ walk (pairsListed m (windowsIn m windows)) (state q old)

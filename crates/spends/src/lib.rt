@@ -39,7 +39,15 @@ fn join_pairs(ch: Chains, left: Node, right: Node, own: Node, area: &mut [u64], 
             to: own.base + own.cells,
         },
     };
-    joins::walk_join(area, &windows[0..n], &lefts[0..n], &rights[0..n], &owns[0..n], parts, q)
+    joins::walk_join(
+        area,
+        &windows[0..n],
+        &lefts[0..n],
+        &rights[0..n],
+        &owns[0..n],
+        parts,
+        q,
+    )
 }
 
 // A leaf has no pairs; a join whose pairs are all done is passed over by their number, and one that comes after the budget's end is left.
