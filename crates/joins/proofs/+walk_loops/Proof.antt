@@ -1,7 +1,7 @@
 -- `walk_loops` meets its contract, by recursion on the loops that are left: one turn of the first loop is the others at other places.
 use Prim.Native.Nat.{ℕ, _+_, _-_, _^_, _≤_, _<_}
 use mathlib.Core.Path.{_≡_, refl, _∙_}
-use mathlib.Core.List.{[], _∷_}
+use mathlib.Core.List.{_∷_}
 use native.Mathlib.Omega.{arith}
 use lib.ListN.{length, getD, set, take, drop, length-take, length-drop}
 use Rattle.joins.specs.Walk.{state}

@@ -1,7 +1,4 @@
 -- `add_chain` meets its contract: a chain is shared where neither child's stride is 0.
-use mathlib.Core.Path.{ap, _∙_}
-use lib.Dec.{ltb}
-use Rattle.joins.specs.Flat.{flat, withChain}
 use Rattle.joins.proofs.BuildLaws.{no-left, no-right, two-strides}
 use borrow.Author.Needs.{needs}
 use Rattle.joins.proofs.add_chain.Statement.{statement}

@@ -1,6 +1,5 @@
 -- `flatten` meets its contract: one turn a chain.
 use Prim.Native.Nat.{_-_}
-use native.Mathlib.Omega.{arith}
 use lib.ListN.{length}
 use Rattle.joins.proofs.BuildLaws.{Building, building-none, building-room, building-more, built}
 use borrow.Author.Needs.{needs}
