@@ -1,8 +1,8 @@
 -- `add_chain` meets its contract: a chain is shared where neither child's stride is 0.
 use Rattle.joins.proofs.BuildLaws.{no-left, no-right, two-strides}
 use borrow.Author.Needs.{needs}
-use Rattle.joins.proofs.add_chain.Statement.{statement}
-use Rattle.joins.proofs.add_chain.Tie as tie
+use Rattle.joins.proofs.flat.add_chain.Statement.{statement}
+use Rattle.joins.proofs.flat.add_chain.Tie as tie
 
 add-single-requires : tie.Need-add-single-requires
 add-single-requires c κs = search needs

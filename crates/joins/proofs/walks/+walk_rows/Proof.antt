@@ -11,12 +11,12 @@ use Rattle.joins.proofs.TurnLaws.{Walked, walk-begins, rowTurn, row-aga
 use borrow.Author.Needs.{needs}
 use borrow.Fn.Kinds.{In}
 use borrow.Fn.PlainCycle.{Measures, is, falls, and}
-use Rattle.joins.proofs.walk_rows.Reads as walk-rows
-use Rattle.joins.proofs.walk_rows.Kinds as walk-rows-kinds
-use Rattle.joins.proofs.+walk_rows.Lts-walk_rows as walk-rows-lts
-use Rattle.joins.proofs.walk_pair.Reads as walk-pair-reads
-use Rattle.joins.proofs.+walk_rows.{statement}
-use Rattle.joins.proofs.+walk_rows.Tie.{close}
+use Rattle.joins.proofs.walks.walk_rows.Reads as walk-rows
+use Rattle.joins.proofs.walks.walk_rows.Kinds as walk-rows-kinds
+use Rattle.joins.proofs.walks.+walk_rows.Lts-walk_rows as walk-rows-lts
+use Rattle.joins.proofs.walks.walk_pair.Reads as walk-pair-reads
+use Rattle.joins.proofs.walks.+walk_rows.{statement}
+use Rattle.joins.proofs.walks.+walk_rows.Tie.{close}
 
 abbrev μ-walk-rows : Measures 2 walk-rows-kinds.ps ℕ
 μ-walk-rows κs a = length (a .1 .1 .0 .now)

@@ -3,8 +3,8 @@ use native.Mathlib.Omega.{arith}
 use lib.ListN.{length-set}
 use Rattle.joins.proofs.BuildLaws.{write-three}
 use borrow.Author.Needs.{needs}
-use Rattle.joins.proofs.write_row.Statement.{statement}
-use Rattle.joins.proofs.write_row.Tie as tie
+use Rattle.joins.proofs.flat.write_row.Statement.{statement}
+use Rattle.joins.proofs.flat.write_row.Tie as tie
 
 mul-rows : tie.Need-mul-rows
 mul-rows c = search needs

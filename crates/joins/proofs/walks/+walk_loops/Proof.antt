@@ -11,15 +11,15 @@ use Rattle.joins.proofs.LoopLaws.{loopTurn, loop-again, loop-ends, turn
 use borrow.Author.Needs.{needs}
 use borrow.Fn.Kinds.{In}
 use borrow.Fn.PlainCycle.{Measures, is, falls, and}
-use Rattle.joins.proofs.walk_loops.Reads as walk-loops
-use Rattle.joins.proofs.walk_loops.Kinds as walk-loops-kinds
-use Rattle.joins.proofs.+walk_loops.Lts-walk_loops as walk-loops-lts
-use Rattle.joins.proofs.set_at.Reads as set-at-reads
-use Rattle.joins.proofs.times.Reads as times-reads
-use Rattle.joins.proofs.value_at.Reads as value-at-reads
-use Rattle.joins.proofs.walk_last.Reads as walk-last-reads
-use Rattle.joins.proofs.+walk_loops.{statement}
-use Rattle.joins.proofs.+walk_loops.Tie.{close}
+use Rattle.joins.proofs.walks.walk_loops.Reads as walk-loops
+use Rattle.joins.proofs.walks.walk_loops.Kinds as walk-loops-kinds
+use Rattle.joins.proofs.walks.+walk_loops.Lts-walk_loops as walk-loops-lts
+use Rattle.joins.proofs.walks.set_at.Reads as set-at-reads
+use Rattle.joins.proofs.walks.times.Reads as times-reads
+use Rattle.joins.proofs.walks.value_at.Reads as value-at-reads
+use Rattle.joins.proofs.walks.walk_last.Reads as walk-last-reads
+use Rattle.joins.proofs.walks.+walk_loops.{statement}
+use Rattle.joins.proofs.walks.+walk_loops.Tie.{close}
 
 abbrev μ-walk-loops : Measures 3 walk-loops-kinds.ps ℕ
 μ-walk-loops κs a = length (a .1 .1 .0 .now)

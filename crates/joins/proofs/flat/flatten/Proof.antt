@@ -3,8 +3,8 @@ use Prim.Native.Nat.{_-_}
 use lib.ListN.{length}
 use Rattle.joins.proofs.BuildLaws.{Building, building-none, building-room, building-more, built}
 use borrow.Author.Needs.{needs}
-use Rattle.joins.proofs.flatten.Statement.{statement}
-use Rattle.joins.proofs.flatten.Tie as tie
+use Rattle.joins.proofs.flat.flatten.Statement.{statement}
+use Rattle.joins.proofs.flat.flatten.Tie as tie
 
 abbrev Inv-loop : tie.InvT-loop
 Inv-loop loops₀ rows₀ windows left right own u₀ k₀ loops rows u k = Building windows left right own loops rows u k

@@ -8,8 +8,8 @@ use Rattle.joins.specs.Walk.{state}
 use Rattle.joins.proofs.TurnLaws.{Walked, walk-begins}
 use Rattle.joins.proofs.LoopLaws.{loopTurn, loop-ends, turn-numbers, turn-sound, last-at, last-again, write-again, write-length, restored}
 use borrow.Author.Needs.{needs}
-use Rattle.joins.proofs.walk_last.Statement.{statement}
-use Rattle.joins.proofs.walk_last.Tie as tie
+use Rattle.joins.proofs.walks.walk_last.Statement.{statement}
+use Rattle.joins.proofs.walks.walk_last.Tie as tie
 
 abbrev Inv-loop : tie.InvT-loop
 Inv-loop area₀ join rows₀ l r t count n p a b c len old e₀ i₀ area rows e i = ((length area ≡ length area₀) × (length rows ≡ length rows₀) × (len ≡ length rows₀) × (old ≡ getD rows₀ p 0) × (n < 2 ^ 64))

@@ -2,8 +2,8 @@
 use native.Mathlib.Omega.{arith}
 use Rattle.joins.proofs.BuildLaws.{shared-partial, shared-finished, grown-more}
 use borrow.Author.Needs.{needs}
-use Rattle.joins.proofs.add_shared.Statement.{statement}
-use Rattle.joins.proofs.add_shared.Tie as tie
+use Rattle.joins.proofs.flat.add_shared.Statement.{statement}
+use Rattle.joins.proofs.flat.add_shared.Tie as tie
 
 add-t15 : tie.Need-add-t15
 add-t15 c = search needs

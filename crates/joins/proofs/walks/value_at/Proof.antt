@@ -3,8 +3,8 @@ use Prim.Native.Nat.{ℕ}
 use mathlib.Core.Path.{sym}
 use lib.ListN.{List·getD-eq-default}
 use borrow.Author.Needs.{needs}
-use Rattle.joins.proofs.value_at.Statement.{statement}
-use Rattle.joins.proofs.value_at.Tie as tie
+use Rattle.joins.proofs.walks.value_at.Statement.{statement}
+use Rattle.joins.proofs.walks.value_at.Tie as tie
 
 mul-result : tie.Need-mul-result
 mul-result c = search needs

@@ -2,8 +2,8 @@
 use mathlib.Core.Path.{sym, _∙_}
 use Rattle.joins.proofs.PairLaws.{pair-over, pair-skipped, pair-spent, pair-added, pair-too-large}
 use borrow.Author.Needs.{needs}
-use Rattle.joins.proofs.walk_pair.Statement.{statement}
-use Rattle.joins.proofs.walk_pair.Tie as tie
+use Rattle.joins.proofs.walks.walk_pair.Statement.{statement}
+use Rattle.joins.proofs.walks.walk_pair.Tie as tie
 
 returns : tie.Need-returns
 returns c = pair-over _ _ _ _ _ _ (c .if1 .taken)

@@ -3,8 +3,8 @@ use native.Mathlib.Omega.{arith}
 use lib.ListN.{length-set}
 use Rattle.joins.proofs.BuildLaws.{write-five}
 use borrow.Author.Needs.{needs}
-use Rattle.joins.proofs.write_loop.Statement.{statement}
-use Rattle.joins.proofs.write_loop.Tie as tie
+use Rattle.joins.proofs.flat.write_loop.Statement.{statement}
+use Rattle.joins.proofs.flat.write_loop.Tie as tie
 
 mul-loops : tie.Need-mul-loops
 mul-loops c = search needs

@@ -2,8 +2,8 @@
 use mathlib.Core.Path.{refl, sym, _∙_}
 use Rattle.joins.proofs.CellLaws.{cell-over, cell-past, cell-added}
 use borrow.Author.Needs.{needs}
-use Rattle.joins.proofs.walk_cell.Statement.{statement}
-use Rattle.joins.proofs.walk_cell.Tie as tie
+use Rattle.joins.proofs.walks.walk_cell.Statement.{statement}
+use Rattle.joins.proofs.walks.walk_cell.Tie as tie
 
 returns : tie.Need-returns
 returns c = cell-over _ _ _ (c .if1 .taken)

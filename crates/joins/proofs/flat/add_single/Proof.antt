@@ -2,8 +2,8 @@
 use native.Mathlib.Omega.{arith}
 use Rattle.joins.proofs.BuildLaws.{single-partial, single-none, grown-more}
 use borrow.Author.Needs.{needs}
-use Rattle.joins.proofs.add_single.Statement.{statement}
-use Rattle.joins.proofs.add_single.Tie as tie
+use Rattle.joins.proofs.flat.add_single.Statement.{statement}
+use Rattle.joins.proofs.flat.add_single.Tie as tie
 
 add-t14 : tie.Need-add-t14
 add-t14 c = search needs

@@ -2,8 +2,8 @@
 use mathlib.Core.Path.{sym}
 use lib.Seq.{set-out}
 use borrow.Author.Needs.{needs}
-use Rattle.joins.proofs.set_at.Statement.{statement}
-use Rattle.joins.proofs.set_at.Tie as tie
+use Rattle.joins.proofs.walks.set_at.Statement.{statement}
+use Rattle.joins.proofs.walks.set_at.Tie as tie
 
 mul-rows : tie.Need-mul-rows
 mul-rows c = search needs

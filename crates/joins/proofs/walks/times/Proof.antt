@@ -1,8 +1,8 @@
 -- `times` meets its contract: the test is the definition's.
 use native.Mathlib.Omega.{arith}
 use Rattle.joins.proofs.LoopLaws.{times-in, times-out}
-use Rattle.joins.proofs.times.Statement.{statement}
-use Rattle.joins.proofs.times.Tie as tie
+use Rattle.joins.proofs.walks.times.Statement.{statement}
+use Rattle.joins.proofs.walks.times.Tie as tie
 
 mul-result : tie.Need-mul-result
 mul-result c = let a = c .before .args in omega (arith, times-in (a .p) (a .len) (a .count) (a .n) (c .if1 .taken), c .before .pre)
