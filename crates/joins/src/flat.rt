@@ -1,4 +1,5 @@
-// The flat lists of a join's loops and rows, from its chains' windows and strides.
+// The flat lists of a join's loops and rows, from its chains. A chain is four numbers: its window n and its strides a, b and c in the left
+// child, the right child and the join, 0 where it is not partial.
 use crate::Loop;
 use crate::Used;
 use cellsums::Row;
