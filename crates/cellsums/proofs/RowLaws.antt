@@ -1,8 +1,8 @@
 -- A loop over one row. The invariant: what is summed and what the turns ahead add make the whole sum, so a turn that is too large means
 -- that the whole sum is. A row alone is a loop over no further rows.
-use Prim.Native.Nat.{ℕ, zero, suc, _+_, _-_, _*_, _≤_, _<_, _^_}
+use Prim.Native.Nat.{ℕ, suc, _+_, _-_, _*_, _≤_, _<_, _^_}
 use mathlib.Core.Path.{_≡_, refl, sym}
-use mathlib.Core.List.{List, [], _∷_}
+use mathlib.Core.List.{List, _∷_}
 use native.Mathlib.Omega.{arith}
 use Rattle.sums.specs.Lists.{from}
 use Rattle.sums.specs.Sums.{sumOver}

@@ -1,17 +1,17 @@
 -- Arrays of which a part is used, filled number after number: what is written after the used part is appended to it. So a chain's loop and row
 -- are appended, and the arrays hold eight chains.
-use Prim.Native.Nat.{ℕ, zero, suc, _+_, _*_, _^_, _≤_, _<_}
+use Prim.Native.Nat.{ℕ, suc, _+_, _*_, _^_, _≤_, _<_}
 use mathlib.Core.Path.{_≡_, refl, sym, ap, _∙_}
 use mathlib.Core.Bool.{true, false, _&&_}
-use mathlib.Core.List.{List, [], _∷_, _++_, append-assoc, append-nil}
-use native.Mathlib.Nat.{add-zero, pow-suc, pow-le-pow-right, mul-le-mul, le-trans}
+use mathlib.Core.List.{List, [], _∷_, _++_, append-assoc}
+use native.Mathlib.Nat.{pow-suc, pow-le-pow-right, mul-le-mul}
 use native.Mathlib.Numerals.{add-one}
 use native.Mathlib.Omega.{arith}
 use borrow.Author.Tests.{lt-ltb, le-ltb}
 use lib.Dec.{ltb}
 use lib.ListN.{length, getD, set, take, drop, length-set, length-take, drop-of-length-le}
 use lib.Seq.{take-suc-set, drop-cons}
-use Rattle.joins.specs.Flat.{Flat, withChain, addChain, addChains, flat, nothing, Chains, Room, Grown}
+use Rattle.joins.specs.Flat.{withChain, addChain, addChains, flat, nothing, Chains, Room, Grown}
 use Rattle.joins.specs.declared.Used.{Used}
 
 -- ---- numbers written one after the other

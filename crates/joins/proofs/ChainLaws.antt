@@ -1,6 +1,6 @@
 -- A join's chains by the four ways in which they loop, the flat lists of loops and rows that they make, and the pairs that those list: over
 -- the result's indices, then over the rows. By induction over the chains, with the rows of the chains before.
-use Prim.Native.Nat.{ℕ, zero, suc, _+_, _-_, _*_, _≤_}
+use Prim.Native.Nat.{ℕ, suc, _+_, _-_, _*_, _≤_}
 use mathlib.Core.Path.{_≡_, refl, sym, ap, _∙_, fun-ext}
 use mathlib.Core.List.{List, [], _∷_, _++_, map, flatMap, append-assoc, append-nil}
 use native.Mathlib.Omega.{arith}

@@ -2,12 +2,11 @@
 -- bounds that make them sound: the chains' last places lie in their nodes, and no cell has more than 16^8 pairs.
 use Prim.Native.Nat.{ℕ, suc, _+_, _*_, _^_, _≤_, _<_}
 use mathlib.Core.Path.{_≡_, refl, sym, ap, _∙_}
-use mathlib.Core.Bool.{true, false, _&&_}
+use mathlib.Core.Bool.{true, false}
 use mathlib.Core.List.{List, [], _∷_, _++_, zipWith, append-assoc, append-nil}
-use native.Mathlib.Nat.{mul-one, mul-assoc, mul-le-mul-right, mul-le-mul-left, le-refl, le-trans, pow-suc}
+use native.Mathlib.Nat.{mul-one, mul-assoc, mul-le-mul-right, le-refl, le-trans, pow-suc}
 use native.Mathlib.Omega.{arith}
 use borrow.Author.Tests.{lt-ltb}
-use lib.Dec.{ltb}
 use lib.ListN.{length, getD, length-append}
 use Rattle.network.specs.Coverage.{Coverage, finished, partial, absent}
 use Rattle.network.specs.Cells.{span, size, cells, stride, strides}

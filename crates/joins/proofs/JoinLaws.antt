@@ -1,26 +1,25 @@
 -- A join of a network: the flat lists of its windows and strides are sound, and walking them is walking the network's own pairs of the join.
 use Prim.Native.Nat.{ℕ, suc, _+_, _-_, _*_, _^_, _≤_, _<_}
 use mathlib.Core.Path.{_≡_, refl, sym, ap, subst, _∙_, fun-ext}
-use mathlib.Core.List.{List, [], _∷_, _++_, map, map-map, flatMap, zipWith}
+use mathlib.Core.List.{List, [], _∷_, map, map-map, flatMap, zipWith}
 use native.Mathlib.Nat.{pow-le-pow-right, zero-add, one-mul, sub-zero}
 use native.Mathlib.Omega.{arith}
 use lib.ListN.{length, take, drop}
 use Rattle.network.specs.Coverage.{Coverage, Tree, join, coverages}
-use Rattle.network.specs.Cells.{Span, indices, cells, span, strides, along, spansAt, allCells, base, cellOf}
+use Rattle.network.specs.Cells.{Span, indices, span, strides, along, spansAt, allCells, cellOf}
 use Rattle.network.specs.Pairs.{Pair, indexPairs, ownPairs}
 use Rattle.network.proofs.CoverageLaws.{Meets, meets}
 use Rattle.network.proofs.NodeLaws.{coverages-length, spans-length}
 use Rattle.network.proofs.AreaLaws.{base-is, base-join, base-room}
-use Rattle.cellsums.specs.Places.{places}
 use Rattle.joins.specs.Loops.{pairAt, cellPairs, loopPairs, Sound}
 use Rattle.joins.specs.Walk.{State, walk}
-use Rattle.joins.specs.Flat.{Flat, addChains, flat, nothing}
+use Rattle.joins.specs.Flat.{addChains, flat, nothing}
 use Rattle.joins.specs.Join.{JoinOf}
 use Rattle.joins.specs.declared.Join.{Join}
 use Rattle.joins.specs.declared.Used.{Used}
-use Rattle.joins.proofs.ChainLaws.{Chain, spanOf, ownStride, loops, rows, rowsAt, leftAt, rightAt, loops-list, pairsOf}
+use Rattle.joins.proofs.ChainLaws.{Chain, ownStride, loops, rows, loops-list, pairsOf}
 use Rattle.joins.proofs.MeetLaws.{chains, chains-span, chains-stride, chains-places, placed}
-use Rattle.joins.proofs.SoundLaws.{flatRows, pairsIn, lastLeft, lastRight, ended, most, Parts, Bounds, chains-sound}
+use Rattle.joins.proofs.SoundLaws.{flatRows, pairsIn, lastLeft, lastRight, ended, Parts, Bounds, chains-sound}
 use Rattle.joins.proofs.FlatLaws.{Low, chains-low, chains-flat}
 
 length-strides : (ss : List Span) → length (strides ss) ≡ length ss

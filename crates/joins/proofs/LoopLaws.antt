@@ -12,7 +12,7 @@ use lib.Seq.{take-all, set-set, set-getD, set-out}
 use Rattle.sums.specs.Lists.{from}
 use Rattle.network.specs.Pairs.{Pair}
 use Rattle.joins.specs.Walk.{State, walk}
-use Rattle.joins.specs.Loops.{cellPairs, loopPairs, Inside, At, Numbers, times, Sound}
+use Rattle.joins.specs.Loops.{cellPairs, loopPairs, At, Numbers, times, Sound}
 use Rattle.joins.specs.declared.Join.{Join}
 use Rattle.joins.proofs.TurnLaws.{ahead, ahead-all, Walked, walk-again, walk-ends}
 

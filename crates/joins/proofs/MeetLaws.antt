@@ -1,25 +1,20 @@
 -- A join's chains from how their coverages meet. By cases on the meeting: the chains have the join's spans and strides, their rows list the
 -- places of the network's index pairs, and the flat lists that the code builds from windows and strides are theirs.
-use Prim.Native.Nat.{ℕ, zero, suc, _+_, _-_, _*_, _≤_, _<_}
+use Prim.Native.Nat.{ℕ, zero, suc, _+_, _-_, _*_}
 use mathlib.Core.Path.{_≡_, refl, sym, ap, _∙_, fun-ext}
-use mathlib.Core.Bool.{true, false, _&&_}
-use mathlib.Core.List.{List, [], _∷_, _++_, map, map-map, flatMap, zipWith, append-assoc, append-nil}
-use native.Mathlib.Nat.{mul-one, mul-assoc, mul-comm}
+use mathlib.Core.List.{List, [], _∷_, map, map-map, flatMap, zipWith, append-nil}
+use native.Mathlib.Nat.{mul-comm}
 use native.Mathlib.Omega.{arith}
-use borrow.Author.Tests.{lt-ltb}
-use lib.Dec.{ltb}
-use lib.ListN.{length, length-append}
+use lib.ListN.{length}
 use Rattle.sums.specs.Lists.{from}
 use Rattle.sums.specs.Sums.{splits, oneMore, before}
 use Rattle.network.specs.Coverage.{Coverage, finished, partial, absent}
-use Rattle.network.specs.Cells.{Span, span, cells, stride, strides, along}
+use Rattle.network.specs.Cells.{span, cells, stride, strides, along}
 use Rattle.network.specs.Pairs.{chainPairs, indexPairs}
 use Rattle.network.proofs.CoverageLaws.{Meet, Meets}
-use Rattle.network.proofs.CellLaws.{cells-pos}
 use Rattle.cellsums.specs.Places.{places}
-use Rattle.joins.specs.Flat.{Flat, withChain, addChain, addChains}
 use Rattle.joins.proofs.TurnLaws.{map-flat}
-use Rattle.joins.proofs.ChainLaws.{Chain, both, ends, one, still, spanOf, ownStride, loops, rows, rowsAt, leftAt, rightAt, flat-map}
+use Rattle.joins.proofs.ChainLaws.{Chain, both, ends, one, still, spanOf, ownStride, rows, rowsAt, leftAt, rightAt, flat-map}
 
 -- by the cells of the later chains in the left child, in the right one and at the join
 unfoldable pub chain : {l r j : Coverage} → Meet l r j → ℕ → ℕ → ℕ → ℕ → Chain

@@ -1,17 +1,17 @@
 -- A join's flat lists are sound: where the chains' last places lie in the children's cells and the join's own, and the largest cell's number of
 -- pairs is below 2^64, so is it at every cell that the loops come to. By induction over the chains, with the rows of the chains before.
-use Prim.Native.Nat.{ℕ, zero, suc, _+_, _-_, _*_, _^_, _≤_, _<_}
+use Prim.Native.Nat.{ℕ, suc, _+_, _-_, _*_, _^_, _≤_, _<_}
 use mathlib.Core.Path.{_≡_, refl, sym, ap, _∙_}
-use mathlib.Core.List.{List, [], _∷_, _++_, flatMap, append-assoc, append-nil}
+use mathlib.Core.List.{List, [], _∷_, _++_, append-assoc, append-nil}
 use native.Mathlib.Nat.{mul-le-mul-right, mul-le-mul-left, mul-assoc, mul-one, le-refl, one-le-mul}
 use native.Mathlib.Omega.{arith}
 use lib.Dec.{ltb}
-use lib.ListN.{length, set, length-append}
+use lib.ListN.{length, length-append}
 use lib.Seq.{set-append-seam, set-out}
 use Rattle.sums.specs.Lists.{from}
 use Rattle.sums.proofs.ListLaws.{length-flat, length-from}
 use Rattle.cellsums.specs.Places.{places, reachLeft, reachRight}
-use Rattle.joins.specs.Loops.{At, Numbers, times, Sound}
+use Rattle.joins.specs.Loops.{times, Sound}
 use Rattle.joins.specs.Flat.{unshared}
 use Rattle.joins.specs.declared.Join.{Join}
 use Rattle.joins.proofs.LoopLaws.{times-in, times-out}

@@ -1,6 +1,6 @@
 -- A walk over a loop's pairs, turn by turn. The invariant: the turns ahead lead from the state that is reached to where the whole loop leads.
 -- Then a cell's rows as such loops.
-use Prim.Native.Nat.{ℕ, zero, suc, _+_, _-_, _*_, _≤_, _<_}
+use Prim.Native.Nat.{ℕ, suc, _+_, _-_, _*_, _≤_, _<_}
 use mathlib.Core.Path.{_≡_, refl, sym, ap, _∙_}
 use mathlib.Core.List.{List, [], _∷_, _++_, map, flatMap}
 use native.Mathlib.Omega.{arith}

@@ -1,7 +1,7 @@
 -- `add_rows` meets its contract, by recursion on the rows that are left: one turn of the first row is the others at other places.
-use Prim.Native.Nat.{_+_, _-_, _*_, _^_, _≤_, ℕ, _<_}
+use Prim.Native.Nat.{_+_, _-_, _^_, _≤_, ℕ, _<_}
 use mathlib.Core.Path.{_≡_, sym, _∙_}
-use mathlib.Core.List.{List, [], _∷_}
+use mathlib.Core.List.{_∷_}
 use native.Mathlib.Omega.{arith}
 use lib.ListN.{length, take, drop, length-take, length-drop}
 use Rattle.cellsums.specs.Places.{product, Within}

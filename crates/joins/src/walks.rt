@@ -1,0 +1,320 @@
+// The walk over a join's pairs, cell by cell: what is skipped is counted, and what the budget has is added.
+use crate::Join;
+use crate::Loop;
+use crate::Quota;
+use arith::Fits;
+use cellsums::Part;
+ghost use mathlib.Core.Path.{_≡_};
+ghost use mathlib.Core.List.{[]};
+ghost use Prim.Native.Nat.{_<_, _^_};
+ghost use lib.Dec.{ltb};
+ghost use lib.ListN.{length, getD, set};
+ghost use Rattle.cellsums.specs.Places.{places};
+ghost use Rattle.joins.specs.Walk.{state, walk};
+ghost use Rattle.joins.specs.Loops.{cellPairs, loopThen, loopPairs, Inside, times as timesOf, Sound};
+
+fn put(own: &mut [u64], i: usize, v: u64)
+    requires { ⌜ i < length (now own) ⌝ }
+    ensures { λ _. ⌜ now (own .exit) ≡ set (now (own .entry)) i v ⌝ }
+{
+    own[i] = v;
+}
+
+// One pair: the children lent for reading, then the join's own cells lent on to be written.
+fn walk_pair(area: &mut [u64], join: Join, l: usize, r: usize, t: usize, q: Quota) -> Quota
+    requires { ⌜ Inside (length (now area)) join [] l r t ⌝ }
+    ensures { λ e. ⌜ state e (now (area .exit)) ≡ walk (cellPairs join [] l r t) (state q (now (area .entry))) ⌝ }
+{
+    if q.over {
+        return q;
+    }
+    if 0 < q.skip {
+        return Quota {
+            skip: q.skip - 1,
+            budget: q.budget,
+            over: false,
+        };
+    }
+    if q.budget == 0 {
+        return q;
+    }
+    let left = join.left;
+    let right = join.right;
+    let own = join.own;
+    let t0 = own.from;
+    let t1 = own.to;
+    let x = cellsums::cell(&area[t0..t1], t);
+    match cellsums::add_pair(area, left, right, l, r, x) {
+        Fits::Exact(v) => {
+            put(&mut area[t0..t1], t, v);
+            Quota {
+                skip: 0,
+                budget: q.budget - 1,
+                over: false,
+            }
+        }
+        Fits::TooLarge => Quota {
+            skip: 0,
+            budget: q.budget,
+            over: true,
+        },
+    }
+}
+
+// The pairs of a cell one by one.
+fn walk_rows(
+    area: &mut [u64],
+    join: Join,
+    rows: &[usize],
+    l: usize,
+    r: usize,
+    t: usize,
+    q: Quota,
+) -> Quota
+    requires { ⌜ Inside (length (now area)) join (now rows) l r t ⌝ }
+    ensures { λ e. ⌜ state e (now (area .exit)) ≡ walk (cellPairs join (now (rows .entry)) l r t) (state q (now (area .entry))) ⌝ }
+{
+    if rows.len() < 3 {
+        return walk_pair(area, join, l, r, t, q);
+    }
+    let n = rows[0];
+    let a = rows[1];
+    let b = rows[2];
+    let mut e = q;
+    let mut j: usize = 0;
+    while j < n {
+        e = walk_rows(area, join, &rows[3..], l + j * a, r + (n - 1 - j) * b, t, e);
+        j += 1;
+    }
+    e
+}
+
+// The same over copies, field by field: what a call takes by address stays in memory, and the loop over the cells is to keep its own in
+// registers.
+fn one_by_one(
+    area: &mut [u64],
+    join: Join,
+    rows: &[usize],
+    l: usize,
+    r: usize,
+    t: usize,
+    q: Quota,
+) -> Quota
+    requires { ⌜ Inside (length (now area)) join (now rows) l r t ⌝ }
+    ensures { λ e. ⌜ state e (now (area .exit)) ≡ walk (cellPairs join (now (rows .entry)) l r t) (state q (now (area .entry))) ⌝ }
+{
+    let left = join.left;
+    let right = join.right;
+    let own = join.own;
+    let copy = Join {
+        left: Part {
+            from: left.from,
+            to: left.to,
+        },
+        right: Part {
+            from: right.from,
+            to: right.to,
+        },
+        own: Part {
+            from: own.from,
+            to: own.to,
+        },
+    };
+    let e = walk_rows(
+        area,
+        copy,
+        rows,
+        l,
+        r,
+        t,
+        Quota {
+            skip: q.skip,
+            budget: q.budget,
+            over: q.over,
+        },
+    );
+    Quota {
+        skip: e.skip,
+        budget: e.budget,
+        over: e.over,
+    }
+}
+
+// The pairs of a cell: passed over by their number, or summed at once; one by one where skip or budget ends among them or a sum does not
+// fit.
+fn walk_cell(
+    area: &mut [u64],
+    join: Join,
+    rows: &[usize],
+    l: usize,
+    r: usize,
+    t: usize,
+    count: usize,
+    q: Quota,
+) -> Quota
+    requires { ⌜ Inside (length (now area)) join (now rows) l r t ⌝ }
+    requires { ⌜ count ≡ length (places (now rows) l r) ⌝ }
+    ensures { λ e. ⌜ state e (now (area .exit)) ≡ walk (cellPairs join (now (rows .entry)) l r t) (state q (now (area .entry))) ⌝ }
+{
+    if q.over {
+        return q;
+    }
+    if count <= q.skip {
+        return Quota {
+            skip: q.skip - count,
+            budget: q.budget,
+            over: false,
+        };
+    }
+    if 0 < q.skip {
+        return one_by_one(area, join, rows, l, r, t, q);
+    }
+    if q.budget < count {
+        return one_by_one(area, join, rows, l, r, t, q);
+    }
+    let left = join.left;
+    let right = join.right;
+    let own = join.own;
+    let t0 = own.from;
+    let t1 = own.to;
+    let x = cellsums::cell(&area[t0..t1], t);
+    match cellsums::cell_sum(area, left, right, rows, l, r, x) {
+        Fits::Exact(v) => {
+            put(&mut area[t0..t1], t, v);
+            Quota {
+                skip: 0,
+                budget: q.budget - count,
+                over: false,
+            }
+        }
+        Fits::TooLarge => one_by_one(area, join, rows, l, r, t, q),
+    }
+}
+
+// What stands at a place, 0 past the end.
+fn value_at(rows: &[usize], p: usize) -> usize
+    ensures { λ x. ⌜ x ≡ getD (now (rows .entry)) p 0 ⌝ }
+{
+    if p < rows.len() { rows[p] } else { 0 }
+}
+
+// Writes at a place, nothing past the end.
+fn set_at(rows: &mut [usize], p: usize, v: usize)
+    ensures { λ _. ⌜ now (rows .exit) ≡ set (now (rows .entry)) p v ⌝ }
+{
+    if p < rows.len() {
+        rows[p] = v;
+    }
+}
+
+fn times(count: usize, p: usize, len: usize, n: usize) -> usize
+    requires { ⌜ timesOf (ltb p len) count n < 2 ^ 64 ⌝ }
+    ensures { λ x. ⌜ x ≡ timesOf (ltb p len) count n ⌝ }
+{
+    if p < len { count * n } else { count }
+}
+
+// The last loop. Its row's count is written for each i, and restored.
+fn walk_last(
+    area: &mut [u64],
+    join: Join,
+    last: Loop,
+    rows: &mut [usize],
+    l: usize,
+    r: usize,
+    t: usize,
+    count: usize,
+    q: Quota,
+) -> Quota
+    requires { ⌜ Sound (length (now area)) join (loopThen last []) (now rows) l r t count ⌝ }
+    ensures { λ e. ⌜ (state e (now (area .exit)) ≡ walk (loopPairs join (loopThen last []) (now (rows .entry)) l r t) (state q (now (area .entry)))) × (now (rows .exit) ≡ now (rows .entry)) ⌝ }
+{
+    let n = last.count;
+    let p = last.row;
+    let a = last.left;
+    let b = last.right;
+    let c = last.own;
+    let len = rows.len();
+    let old = value_at(rows, p);
+    let mut e = q;
+    let mut i: usize = 0;
+    while i < n {
+        set_at(rows, p, i + 1);
+        e = walk_cell(
+            area,
+            join,
+            rows,
+            l + i * a,
+            r + i * b,
+            t + i * c,
+            times(count, p, len, i + 1),
+            e,
+        );
+        i += 1;
+    }
+    set_at(rows, p, old);
+    e
+}
+
+// A loop for each chain that is partial at the result. Where there is none, one dummy loop of one.
+pub fn walk_loops(
+    area: &mut [u64],
+    join: Join,
+    loops: &[usize],
+    rows: &mut [usize],
+    l: usize,
+    r: usize,
+    t: usize,
+    count: usize,
+    q: Quota,
+) -> Quota
+    requires { ⌜ Sound (length (now area)) join (now loops) (now rows) l r t count ⌝ }
+    ensures { λ e. ⌜ (state e (now (area .exit)) ≡ walk (loopPairs join (now (loops .entry)) (now (rows .entry)) l r t) (state q (now (area .entry)))) × (now (rows .exit) ≡ now (rows .entry)) ⌝ }
+{
+    let len = rows.len();
+    if loops.len() < 5 {
+        let dummy = Loop {
+            count: 1,
+            row: len,
+            left: 0,
+            right: 0,
+            own: 0,
+        };
+        return walk_last(area, join, dummy, rows, l, r, t, count, q);
+    }
+    let n = loops[0];
+    let p = loops[1];
+    let a = loops[2];
+    let b = loops[3];
+    let c = loops[4];
+    if loops.len() == 5 {
+        let last = Loop {
+            count: n,
+            row: p,
+            left: a,
+            right: b,
+            own: c,
+        };
+        return walk_last(area, join, last, rows, l, r, t, count, q);
+    }
+    let old = value_at(rows, p);
+    let mut e = q;
+    let mut i: usize = 0;
+    while i < n {
+        set_at(rows, p, i + 1);
+        e = walk_loops(
+            area,
+            join,
+            &loops[5..],
+            rows,
+            l + i * a,
+            r + i * b,
+            t + i * c,
+            times(count, p, len, i + 1),
+            e,
+        );
+        i += 1;
+    }
+    set_at(rows, p, old);
+    e
+}
