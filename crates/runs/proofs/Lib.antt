@@ -5,3 +5,4 @@ pub mod FillLaws
 pub mod PreparedLaws
 pub mod TurnLaws
 pub mod StartLaws
+pub mod WholeLaws
