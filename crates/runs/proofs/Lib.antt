@@ -6,3 +6,4 @@ pub mod PreparedLaws
 pub mod TurnLaws
 pub mod StartLaws
 pub mod SpentLaws
+pub mod WholeLaws

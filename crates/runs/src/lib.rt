@@ -2,6 +2,7 @@
 pub mod advance; // advance.rt: the advance call
 pub mod fill; // fill.rt: what a start writes, node by node
 pub mod leaves; // leaves.rt: the cells of one leaf
+pub mod whole; // whole.rt: a whole run in one call
 
 ghost use mathlib.Core.Path.{_≡_};
 ghost use mathlib.Core.Bool.{_||_};
