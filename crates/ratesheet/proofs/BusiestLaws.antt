@@ -1,6 +1,6 @@
 -- The busiest centre. The running best over a list of sums is the number of the first of the largest: one more sum is either not above
 -- it, and leaves it, or is above every sum before it, and is the new best.
-use Prim.Native.Nat.{ℕ, zero, suc, _+_, _-_, _*_, _≤_, _<_, max}
+use Prim.Native.Nat.{ℕ, suc, _+_, _-_, _*_, _≤_, _<_, max}
 use mathlib.Core.Path.{_≡_, refl, sym, ap, subst, _∙_}
 use mathlib.Core.Bool.{Bool, true, false}
 use mathlib.Core.List.{List, [], _∷_, _++_, map}

@@ -1,12 +1,12 @@
 -- A chain's numerator, whether its run is granted or not: where it is not, the chain has no message to give; where it is, the run's
 -- value is the numerator, its cells are no more than the full model's, and so what lies past those is kept.
-use Prim.Native.Nat.{ℕ, zero, suc, _+_, _-_, _≤_, _<_, _^_}
+use Prim.Native.Nat.{ℕ, zero, suc, _+_, _-_, _≤_}
 use mathlib.Core.Path.{_≡_, refl, sym, ap, subst, _∙_}
 use mathlib.Core.Bool.{Bool, true, false}
 use mathlib.Core.List.{List, [], _∷_}
 use native.Mathlib.Omega.{arith}
 use lib.Dec.{ltb, eqb}
-use lib.ListN.{length, getD, take, drop, set, length-set, List·getD-eq-default}
+use lib.ListN.{length, getD, take, drop, length-set, List·getD-eq-default}
 use lib.Seq.{drop-drop}
 use borrow.Author.Tests.{ltb-true, eqb-true}
 use Rattle.network.specs.Centre.{routesOf}

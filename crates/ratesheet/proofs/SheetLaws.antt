@@ -1,31 +1,26 @@
 -- The sheet, case by case: the file is refused, the area has no room, a value is too large, or the numbers make the answer; and the
 -- area, whose cells past the model's were kept by the runs, with the model's own cells 0.
-use Prim.Native.Nat.{ℕ, _≤_, _<_, _^_}
-use mathlib.Core.Path.{_≡_, refl, sym, ap, subst, _∙_}
+use Prim.Native.Nat.{ℕ, _≤_, _^_}
+use mathlib.Core.Path.{_≡_, sym, ap, _∙_}
 use mathlib.Core.Bool.{Bool, true, false, _||_}
 use mathlib.Core.List.{List, _++_}
 use native.Mathlib.Omega.{arith}
-use lib.Dec.{ltb, leb}
+use lib.Dec.{ltb}
 use lib.ListN.{length, take, drop, replicate}
 use lib.Seq.{length-take-le}
 use borrow.Author.Tests.{le-leb, lt-leb}
-use Rattle.sums.specs.Choice.{choose}
-use Rattle.sums.specs.Lists.{some}
 use Rattle.network.specs.States.{value}
 use Rattle.modelfile.specs.File.{readFile}
 use Rattle.modelfile.specs.Network.{windowsOf, centresOf}
 use Rattle.modelfile.specs.declared.Model.{Model}
 use Rattle.modelfile.specs.declared.Verdict.{Verdict}
 use Rattle.modelfile.specs.declared.Reading.{Reading}
-use Rattle.modelfile.proofs.Guaranteed.{Guaranteed}
-use Rattle.modelfile.proofs.AcceptedLaws.{accepted}
 use Rattle.arith.specs.Capped.{capped}
 use Rattle.arith.specs.declared.Fits.{Fits}
 use Rattle.arith.proofs.CappedLaws.{exact-says, large-says}
-use Rattle.calls.specs.Answers.{Left}
 use Rattle.calls.specs.Asked.{ask, lowering, cellsIn, pairsIn}
-use Rattle.calls.specs.Start.{noRoom, tooLarge}
-use Rattle.calls.specs.Sheet.{fullValue, numerators, busiest, noSheet, sheetOf, cleared, sheetIn, sheet}
+use Rattle.calls.specs.Start.{noRoom}
+use Rattle.calls.specs.Sheet.{fullValue, busiest, noSheet, sheetOf, cleared, sheetIn, sheet}
 use Rattle.calls.specs.declared.SheetAnswer.{SheetAnswer}
 use Rattle.calls.proofs.ExactLaws.{room-cells}
 use Rattle.plan.specs.Table.{Tabled}

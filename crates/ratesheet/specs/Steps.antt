@@ -1,7 +1,7 @@
 -- What each function of the code answers, by the definitions of the sheet.
 use Prim.Native.Nat.{ℕ}
 use mathlib.Core.Path.{_≡_}
-use mathlib.Core.Bool.{Bool, true, false}
+use mathlib.Core.Bool.{false}
 use mathlib.Core.List.{List}
 use lib.Dec.{ltb}
 use lib.ListN.{length, drop}
@@ -22,9 +22,11 @@ pub record Kept (cells : ℕ) (old new : List ℕ) : Type 0 where
   pub long : length new ≡ length old
   pub past : drop cells new ≡ drop cells old
 
+-- what the sheet says of the full model
 unfoldable pub fullOf : Model → Full
 fullOf m = record { value = fullValue m; pairs = pairsIn m (windowsOf m); cells = cellsIn m (windowsOf m) }
 
+-- the numerators, or that one of them is 2^64 or more
 pub record Numbered (m : Model) (r : Numerators) : Type 0 where
   pub large-is : r .large ≡ some tooLarge (numerators m)
   pub numbers-are : r .large ≡ false → r .numbers ≡ numerators m

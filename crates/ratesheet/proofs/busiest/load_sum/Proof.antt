@@ -1,6 +1,5 @@
 -- `load_sum` meets its contract. The loop's invariant: the loads of the first k chains are added, each at most 65535 (`Summed`).
 use Prim.Native.Nat.{_+_, _-_, _*_}
-use mathlib.Core.Path.{_≡_}
 use native.Mathlib.Omega.{arith}
 use Rattle.ratesheet.proofs.BusiestLaws.{Summed, summed-first, summed-turn, summed-last}
 use borrow.Author.Needs.{needs}

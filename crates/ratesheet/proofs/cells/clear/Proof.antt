@@ -1,7 +1,5 @@
 -- `clear` meets its contract. The loop's invariant: the first i cells are 0, and there are as many as before.
-use Prim.Native.Nat.{ℕ, _-_, _≤_}
-use mathlib.Core.Path.{_≡_, refl}
-use native.Mathlib.Omega.{arith}
+use Prim.Native.Nat.{_-_}
 use lib.ListN.{length}
 use Rattle.ratesheet.proofs.ClearLaws.{Zeroed, zeroed-first, zeroed-turn, zeroed-last}
 use borrow.Author.Needs.{needs}
