@@ -148,7 +148,7 @@ less-is h (zero ∷ windows) zero l f = absurd (f refl)
 less-is h (suc n ∷ windows) zero l f = let d : suc n - 1 ≡ n = omega arith in ap (λ x. h (x ∷ windows)) d
 less-is h (n ∷ windows) (suc k) l f = less-is (λ rest. h (n ∷ rest)) windows k (omega arith) f
 
-lowering-value : (n : Model) (lower : ℕ) (m : Model) (windows : List ℕ) → length (windowsOf n) ≡ n .chains → lowering n lower ≡ granted m windows → exact m windows ≡ lowered lower (value (centresOf m)) (windowsOf m)
+pub lowering-value : (n : Model) (lower : ℕ) (m : Model) (windows : List ℕ) → length (windowsOf n) ≡ n .chains → lowering n lower ≡ granted m windows → exact m windows ≡ lowered lower (value (centresOf m)) (windowsOf m)
 unfolding lowering lowered
 lowering-value n zero m windows g e = let d : n ≡ m = cc in let w : windowsOf n ≡ windows = cc in ap (value (centresOf m)) (sym w ∙ ap windowsOf d)
 lowering-value n (suc k) m windows g e = by (ltb (n .chains) (suc k)) (eqb (getD (windowsOf n) k 0) 0) refl refl e

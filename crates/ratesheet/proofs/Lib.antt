@@ -1,0 +1,5 @@
+pub mod BusiestLaws
+pub mod ClearLaws
+pub mod LoweredLaws
+pub mod NumberedLaws
+pub mod SheetLaws

@@ -1,0 +1,62 @@
+// A chain's numerator: the value with its window one less, 0 where the window is 0.
+ghost use mathlib.Core.Path.{_≡_};
+ghost use Prim.Native.Nat.{_≤_};
+ghost use lib.ListN.{length};
+ghost use Rattle.modelfile.specs.Network.{windowsOf};
+ghost use Rattle.modelfile.proofs.Guaranteed.{Guaranteed};
+ghost use Rattle.arith.specs.Capped.{capped};
+ghost use Rattle.calls.specs.Asked.{cellsIn};
+ghost use Rattle.calls.specs.Sheet.{numerator};
+ghost use Rattle.ratesheet.specs.Steps.{Kept, Numbered};
+use crate::Numerators;
+use arith::Fits;
+use modelfile::Model;
+use plan::Asked;
+use plan::windows::lowered;
+use runs::whole::whole_value;
+
+// "A chain with window 0 has numerator 0 and isn't run."
+fn numerator(m: Model, chain: u64, area: &mut [u64]) -> Fits
+    requires { ⌜ Guaranteed m × (1 ≤ chain) × (cellsIn m (windowsOf m) ≤ length (now area)) ⌝ }
+    ensures { λ r. ⌜ r ≡ capped (numerator m chain) ⌝ }
+    ensures { λ _. ⌜ Kept (cellsIn m (windowsOf m)) (now (area .entry)) (now (area .exit)) ⌝ }
+{
+    let l = lowered(m, chain);
+    let asked = l.asked;
+    let windows = l.windows;
+    match asked {
+        Asked::Refused {
+            number: _,
+            place: _,
+        } => Fits::Exact(0),
+        Asked::Granted => whole_value(m, windows, area),
+    }
+}
+
+// Up to the first that is too large.
+pub fn numerators(m: Model, area: &mut [u64]) -> Numerators
+    requires { ⌜ Guaranteed m × (cellsIn m (windowsOf m) ≤ length (now area)) ⌝ }
+    ensures { λ r. ⌜ Numbered m r ⌝ }
+    ensures { λ _. ⌜ Kept (cellsIn m (windowsOf m)) (now (area .entry)) (now (area .exit)) ⌝ }
+{
+    let mut numbers = [0u64; 8];
+    let mut k: usize = 0;
+    while k < m.chains {
+        match numerator(m, k as u64 + 1, area) {
+            Fits::Exact(n) => {
+                numbers[k] = n;
+                k += 1;
+            }
+            Fits::TooLarge => {
+                return Numerators {
+                    numbers,
+                    large: true,
+                };
+            }
+        }
+    }
+    Numerators {
+        numbers,
+        large: false,
+    }
+}
