@@ -21,7 +21,7 @@ use Rattle.modelfile.proofs.TreeLaws.{allUnder}
 use Rattle.modelfile.proofs.Guaranteed.{Guaranteed}
 use Rattle.calls.proofs.FileLaws.{length-routes}
 use Rattle.plan.specs.Table.{row, countsAt, totalsOf, pairsAt, entry, entries, windowsIn, routesIn, Tabled}
-use Rattle.plan.specs.Steps.{Few, Small, countBy, noNode, rightOf, leftOf, shapeBy, pairsBy, nodeLeaf, nodeJoined, nodeMade, withNode, emptyTable, Ready, Room}
+use Rattle.plan.specs.Steps.{Few, Small, countBy, noNode, rightOf, leftOf, shapeBy, pairsBy, nodeLeaf, nodeJoined, nodeBy, nodeMade, withNode, emptyTable, Ready}
 use Rattle.plan.specs.declared.Chains.{Chains}
 use Rattle.plan.specs.declared.Node.{Node}
 use Rattle.plan.specs.declared.Table.{Table}
@@ -36,25 +36,15 @@ use Rattle.plan.proofs.ModelLaws.{loads-agree, tree-count}
 -- ---- the code's numbers stay small
 
 module _ (ch : Chains) (few : Few ch) (loads : List ℕ) (t : Table) where
-  pub made-cells : (x : ℕ) → nodeMade ch loads t x .cells ≤ 2 ^ 32
-  unfolding nodeMade nodeLeaf nodeJoined shapeBy
+  made-cells : (x : ℕ) → nodeMade ch loads t x .cells ≤ 2 ^ 32
+  unfolding nodeMade nodeBy nodeLeaf nodeJoined shapeBy
   made-cells zero = cells-few (ch .windows) (few .window-range) (ch .totals) _ 0 (ch .count) (few .chains-few)
   made-cells (suc c) = cells-few (ch .windows) (few .window-range) (ch .totals) _ 0 (ch .count) (few .chains-few)
 
-  pub made-pairs : (x : ℕ) → nodeMade ch loads t x .pairs ≤ 136 ^ 8
-  unfolding nodeMade nodeLeaf nodeJoined pairsBy
+  made-pairs : (x : ℕ) → nodeMade ch loads t x .pairs ≤ 136 ^ 8
+  unfolding nodeMade nodeBy nodeLeaf nodeJoined pairsBy
   made-pairs zero = factors-few (ch .windows) (few .window-range) (ch .totals) _ _ _ 0 (ch .count) (few .chains-few)
   made-pairs (suc c) = omega arith
-
-pub few-chains : (m : Model) → Guaranteed m → (windows : List ℕ) → ((k : ℕ) → getD windows k 0 ≤ 15) → length windows ≡ 8 → (totals : List ℕ) → totals ≡ row (m .chains) (λ k. countBy (m .loads) k (from 1 (m .centres)))
-    → Few (record { count = m .chains; totals = totals; windows = windows })
-few-chains m g windows small long totals e =
-    record {
-      chains-few = g .chains-range .1;
-      totals-long = ap length e ∙ length-row (λ k. countBy (m .loads) k (from 1 (m .centres))) (m .chains) (g .chains-range .1);
-      windows-long = long;
-      window-range = small;
-    }
 
 -- ---- one node more
 
@@ -139,7 +129,6 @@ module _ (m : Model) (g : Guaranteed m) (windows : List ℕ) (long : length wind
         record {
           few = s .few;
           leaf-range = omega arith;
-          found = λ z. omega (arith, right-span, children-some);
           left-small = λ z. subst Small (sym children-left) (entry-small l _ (omega (arith, s .count-is, s .few)));
           right-small = λ z. subst Small (sym children-right) (entry-small r _ (omega (arith, s .count-is, s .few)));
         }
@@ -157,7 +146,7 @@ module _ (m : Model) (g : Guaranteed m) (windows : List ℕ) (long : length wind
     parted-top top S rest e = parted-right (routesIn m) (allUnder S) (under top) rest (subst (λ l. List·Permᴰ l (from 1 (length (routesIn m)))) (sym e) (rw (length-routes m g) (g .leaves)))
 
     follows : {S T : List Tree} {x : ℕ} (t : Table) (rest : List ℕ) → Next S x T → Standing m windows t S → allUnder T ++ rest ≡ under (treeOf m) → Follows m windows t x (nodeMade ch (m .loads) t x) S T
-    unfolding nodeMade nodesOf nodesIn forest entries forestCells allCells forestPairs allPairs pairsAt under
+    unfolding nodeMade nodeBy nodesOf nodesIn forest entries forestCells allCells forestPairs allPairs pairsAt under
     follows {S} t rest (Next.grown c) s e =
         let p = parted-top (leaf (suc c)) S rest e in
         let b = from-out 1 (length (routesIn m)) (suc c) (perm-in p (List·Memᴰ·head refl)) in
@@ -165,7 +154,7 @@ module _ (m : Model) (g : Guaranteed m) (windows : List ℕ) (long : length wind
         record {
           top = leaf (suc c);
           start = forestCells (routesIn m) (windowsIn m windows) S;
-          ready = record { few = s .few; leaf-range = omega (arith, length-routes m g, g .centres-range .1); found = λ z. absurd (omega arith); left-small = λ z. absurd (omega arith); right-small = λ z. absurd (omega arith) };
+          ready = record { few = s .few; leaf-range = omega (arith, length-routes m g, g .centres-range .1); left-small = λ z. absurd (omega arith); right-small = λ z. absurd (omega arith) };
           made =
               leaf-entry (routesIn m) (windowsIn m windows) ch count-is et windows-are (m .loads) (λ k d h. loads-agree m g k d (omega (arith, windows-count))) (suc c) (t .cells) (omega arith) high (allUnder S ++ rest) p
               ∙ ap (entry (routesIn m) (windowsIn m windows) (leaf (suc c))) (s .cells-are);
@@ -207,7 +196,7 @@ module _ (m : Model) (g : Guaranteed m) (windows : List ℕ) (long : length wind
   given-count : length (nodesGiven m) ≡ m .count
   given-count = length-take-le (m .count) (m .nodes) (omega (arith, g .nodes-long, g .count-range))
 
-  pub grown-first : (totals : List ℕ) → totals ≡ row (m .chains) (λ k. countBy (m .loads) k (from 1 (m .centres))) → Grown m windows (emptyTable totals) 0
+  grown-first : (totals : List ℕ) → totals ≡ row (m .chains) (λ k. countBy (m .loads) k (from 1 (m .centres))) → Grown m windows (emptyTable totals) 0
   unfolding emptyTable stack subtrees nodesOf forest forestCells forestPairs
   grown-first totals e =
       record {
@@ -231,7 +220,7 @@ module _ (m : Model) (g : Guaranteed m) (windows : List ℕ) (long : length wind
           (λ i. row (sym (windows-count m g windows long) i) (λ k. countBy (m .loads) k (from 1 (sym (length-routes m g) i))))
           ∙ totals-are (routesIn m) (windowsIn m windows) (m .loads) (λ k c h. loads-agree m g k c (omega (arith, windows-count m g windows long)))
 
-  pub grown-last : (t : Table) (i : ℕ) → Grown m windows t i → m .count ≤ i → Tabled m windows t
+  grown-last : (t : Table) (i : ℕ) → Grown m windows t i → m .count ≤ i → Tabled m windows t
   unfolding stack forest forestCells forestPairs nodesOf
   grown-last t i w h =
       let s = w .standing in
@@ -245,46 +234,103 @@ module _ (m : Model) (g : Guaranteed m) (windows : List ℕ) (long : length wind
         pairs-are = s .pairs-are ∙ ap (forestPairs (routesIn m) (windowsIn m windows)) e ∙ omega arith;
       }
 
-  module _ (ch : Chains) (ec : ch .count ≡ m .chains) (ew : ch .windows ≡ windows) (few : Few ch) (t : Table) (i : ℕ) (w : Grown m windows t i) (h : i < m .count) (et : ch .totals ≡ t .totals) where
-    node-same : getD (nodesGiven m) i 0 ≡ getD (m .nodes) i 0
-    node-same = getD-take (m .count) (m .nodes) i 0 h
+-- ---- one turn of it
 
-    count-same : t .count ≡ i
-    count-same = w .standing .count-is ∙ stack-count (nodesGiven m) (treeOf m) (g .one-tree) (tree-count m g) i (omega (arith, given-count))
+-- what each turn has: the model, its chains, and the table so far
+pub record Growing (m : Model) (ch : Chains) (t : Table) (i : ℕ) : Type 0 where
+  pub model : Guaranteed m
+  pub few : Few ch
+  pub chains-are : ch .count ≡ m .chains
+  pub totals-are : ch .totals ≡ t .totals
+  pub grown : Grown m (ch .windows) t i
 
-    turn : Follows m windows t (getD (m .nodes) i 0) (nodeMade ch (m .loads) t (getD (m .nodes) i 0)) (stack (nodesGiven m) i) (stack (nodesGiven m) (suc i))
-    turn =
-        subst (λ x. Follows m windows t x (nodeMade ch (m .loads) t x) (stack (nodesGiven m) i) (stack (nodesGiven m) (suc i))) node-same
-        (follows m g windows long ch ec ew (et ∙ w .standing .totals-are) t (leavesIn (drop (suc i) (nodesGiven m)))
-        (next (nodesGiven m) (treeOf m) (g .one-tree) (tree-count m g) i (omega (arith, given-count)))
-        (w .standing)
-        (parted-stack (nodesGiven m) (treeOf m) (g .one-tree) (tree-count m g) (suc i)))
+pub growing-first : (m : Model) → Guaranteed m → (windows : List ℕ) → ((k : ℕ) → getD windows k 0 ≤ 15) → length windows ≡ 8 → (totals : List ℕ) → totals ≡ row (m .chains) (λ k. countBy (m .loads) k (from 1 (m .centres)))
+    → (t : Table) → t ≡ emptyTable totals → Growing m (record { count = m .chains; totals = totals; windows = windows }) t 0
+unfolding emptyTable
+growing-first m g windows small long totals e t et =
+    rw et
+    (record {
+      model = g;
+      few =
+          record {
+            chains-few = g .chains-range .1;
+            totals-long = ap length e ∙ length-row (λ k. countBy (m .loads) k (from 1 (m .centres))) (m .chains) (g .chains-range .1);
+            windows-long = long;
+            window-range = small;
+          };
+      chains-are = refl;
+      totals-are = refl;
+      grown = grown-first m g windows long totals e;
+    })
 
-    pub turn-ready : Ready t (getD (m .nodes) i 0)
-    turn-ready = turn .ready
+pub growing-last : {m : Model} {ch : Chains} {t : Table} {i : ℕ} → Growing m ch t i → m .count ≤ i → Tabled m (ch .windows) t
+growing-last {m} {ch} {t} {i} w h = grown-last m (w .model) (ch .windows) (w .few .windows-long) t i (w .grown) h
 
-    module _ (e : Node) (ee : e ≡ nodeMade ch (m .loads) t (getD (m .nodes) i 0)) where
+module _ {m : Model} {ch : Chains} {t : Table} {i : ℕ} (w : Growing m ch t i) (h : i < m .count) where
+  count-same : t .count ≡ i
+  count-same = w .grown .standing .count-is ∙ stack-count (nodesGiven m) (treeOf m) (w .model .one-tree) (tree-count m (w .model)) i (omega (arith, given-count m (w .model) (ch .windows) (w .few .windows-long)))
+
+  pub count-low : t .count < 31
+  count-low = omega (arith, count-same, w .model .count-range)
+
+  turn : Follows m (ch .windows) t (getD (m .nodes) i 0) (nodeMade ch (m .loads) t (getD (m .nodes) i 0)) (stack (nodesGiven m) i) (stack (nodesGiven m) (suc i))
+  turn =
+      let g = w .model in
+      let long = w .few .windows-long in
+      let n : i < length (nodesGiven m) = omega (arith, given-count m g (ch .windows) long) in
+      subst (λ x. Follows m (ch .windows) t x (nodeMade ch (m .loads) t x) (stack (nodesGiven m) i) (stack (nodesGiven m) (suc i))) (getD-take (m .count) (m .nodes) i 0 h)
+      (follows m g (ch .windows) long ch (w .chains-are) refl (w .totals-are ∙ w .grown .standing .totals-are) t (leavesIn (drop (suc i) (nodesGiven m)))
+      (next (nodesGiven m) (treeOf m) (g .one-tree) (tree-count m g) i n)
+      (w .grown .standing)
+      (parted-stack (nodesGiven m) (treeOf m) (g .one-tree) (tree-count m g) (suc i)))
+
+  pub node-low : getD (m .nodes) i 0 ≤ 16
+  node-low = turn .ready .leaf-range
+
+  -- the two entries that the code takes out are those a join's children have
+  module _ (r l : ℕ) (er : r ≡ t .count - 1) (el : l ≡ r - getD (t .nodes) r noNode .span) where
+    found-right : getD (t .nodes) r noNode ≡ rightOf t
+    unfolding rightOf
+    found-right = ap (λ n. getD (t .nodes) n noNode) er
+
+    found-left : getD (t .nodes) l noNode ≡ leftOf t
+    unfolding leftOf
+    found-left = ap (λ n. getD (t .nodes) n noNode) (el ∙ (λ j. er j - found-right j .span))
+
+    pub children-small : getD (m .nodes) i 0 ≡ 0 → Small (getD (t .nodes) l noNode) × Small (getD (t .nodes) r noNode)
+    children-small z = (subst Small (sym found-left) (turn .ready .left-small z), subst Small (sym found-right) (turn .ready .right-small z))
+
+    module _ (e : Node) (ee : e ≡ nodeBy ch (m .loads) (getD (t .nodes) l noNode) (getD (t .nodes) r noNode) (t .cells) (getD (m .nodes) i 0)) where
+      made : e ≡ nodeMade ch (m .loads) t (getD (m .nodes) i 0)
+      unfolding nodeMade
+      made = ee ∙ (λ j. nodeBy ch (m .loads) (found-left j) (found-right j) (t .cells) (getD (m .nodes) i 0))
+
       cells-low : e .cells ≤ 2 ^ 32
-      cells-low = subst (λ (n : Node). n .cells ≤ 2 ^ 32) (sym ee) (made-cells ch few (m .loads) t (getD (m .nodes) i 0))
+      cells-low = subst (λ (n : Node). n .cells ≤ 2 ^ 32) (sym made) (made-cells ch (w .few) (m .loads) t (getD (m .nodes) i 0))
 
       pairs-low : e .pairs ≤ 136 ^ 8
-      pairs-low = subst (λ (n : Node). n .pairs ≤ 136 ^ 8) (sym ee) (made-pairs ch few (m .loads) t (getD (m .nodes) i 0))
+      pairs-low = subst (λ (n : Node). n .pairs ≤ 136 ^ 8) (sym made) (made-pairs ch (w .few) (m .loads) t (getD (m .nodes) i 0))
 
-      pub turn-room : Room t e
-      turn-room =
-          record {
-            few = omega (arith, count-same, g .count-range);
-            cells-few = omega (arith, cells-low, w .cells-low, g .count-range);
-            pairs-few = omega (arith, pairs-low, w .pairs-low, g .count-range);
-          }
+      pub cells-fit : t .cells + e .cells < 2 ^ 64
+      cells-fit = omega (arith, cells-low, w .grown .cells-low, w .model .count-range)
 
-      pub turn-grown : (u : Table) → u ≡ withNode t e → Grown m windows u (i + 1)
+      pub pairs-fit : t .pairs + e .pairs < 2 ^ 64
+      pairs-fit = omega (arith, pairs-low, w .grown .pairs-low, w .model .count-range)
+
+      pub turn-growing : Growing m ch (withNode t e) (i + 1)
       unfolding withNode
-      turn-grown u eu =
-          rw (eu, add-one i)
+      turn-growing =
+          rw (add-one i)
           (record {
-            at-most = omega arith;
-            standing = standing-more t e (w .standing) (subst (λ n. Follows m windows t (getD (m .nodes) i 0) n (stack (nodesGiven m) i) (stack (nodesGiven m) (suc i))) (sym ee) turn) (turn-room .few);
-            cells-low = omega (arith, cells-low, w .cells-low);
-            pairs-low = omega (arith, pairs-low, w .pairs-low);
+            model = w .model;
+            few = w .few;
+            chains-are = w .chains-are;
+            totals-are = w .totals-are;
+            grown =
+                record {
+                  at-most = omega arith;
+                  standing = standing-more t e (w .grown .standing) (subst (λ n. Follows m (ch .windows) t (getD (m .nodes) i 0) n (stack (nodesGiven m) i) (stack (nodesGiven m) (suc i))) (sym made) turn) count-low;
+                  cells-low = omega (arith, cells-low, w .grown .cells-low);
+                  pairs-low = omega (arith, pairs-low, w .grown .pairs-low);
+                };
           })

@@ -4,7 +4,6 @@ pub mod FewLaws
 pub mod BackLaws
 pub mod ThoseLaws
 pub mod LoadLaws
-pub mod MadeLaws
 pub mod StackLaws
 pub mod ForestLaws
 pub mod EntryLaws

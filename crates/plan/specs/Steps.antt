@@ -87,6 +87,11 @@ nodeJoined ch l r b =
       pairs = pairsBy ch (l .counts) (r .counts) counts;
     }
 
+-- 0 is a join, any other number a leaf's centre
+unfoldable pub nodeBy : Chains → List ℕ → Node → Node → ℕ → ℕ → Node
+nodeBy ch loads l r b zero = nodeJoined ch l r b
+nodeBy ch loads l r b (suc c) = nodeLeaf ch loads (suc c) b
+
 -- an entry whose numbers are small enough to be added
 pub record Small (e : Node) : Type 0 where
   pub short : e .span ≤ 31
@@ -106,8 +111,7 @@ unfoldable pub leftOf : Table → Node
 leftOf t = getD (t .nodes) (t .count - 1 - rightOf t .span) noNode
 
 unfoldable pub nodeMade : Chains → List ℕ → Table → ℕ → Node
-nodeMade ch loads t zero = nodeJoined ch (leftOf t) (rightOf t) (t .cells)
-nodeMade ch loads t (suc c) = nodeLeaf ch loads (suc c) (t .cells)
+nodeMade ch loads t node = nodeBy ch loads (leftOf t) (rightOf t) (t .cells) node
 
 unfoldable pub withNode : Table → Node → Table
 withNode t e = record { nodes = set (t .nodes) (t .count) e; count = t .count + 1; totals = t .totals; cells = t .cells + e .cells; pairs = t .pairs + e .pairs }
@@ -117,16 +121,9 @@ emptyTable totals =
     let none : Node = record { centre = 0; span = 0; counts = replicate 8 0; base = 0; cells = 0; strides = replicate 8 0; pairs = 0 } in
     record { nodes = replicate 31 none; count = 0; totals = totals; cells = 0; pairs = 0 }
 
--- the next node can be made: a leaf's centre is one, a join finds its children
+-- the next node can be made: a leaf's centre is one, a join's children are small
 pub record Ready (t : Table) (node : ℕ) : Type 0 where
   pub few : t .count ≤ 31
   pub leaf-range : node ≤ 16
-  pub found : node ≡ 0 → rightOf t .span < t .count
   pub left-small : node ≡ 0 → Small (leftOf t)
   pub right-small : node ≡ 0 → Small (rightOf t)
-
--- and added
-pub record Room (t : Table) (e : Node) : Type 0 where
-  pub few : t .count < 31
-  pub cells-few : t .cells + e .cells < 2 ^ 64
-  pub pairs-few : t .pairs + e .pairs < 2 ^ 64

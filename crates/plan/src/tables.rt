@@ -1,12 +1,12 @@
 // The table of a model, by a loop over its nodes with no stack: in postorder a join's right child is the entry before it, and its left
 // child the entry before the right subtree.
 ghost use mathlib.Core.Path.{_≡_};
-ghost use Prim.Native.Nat.{ℕ, _+_, _*_, _^_, _≤_, _<_};
+ghost use Prim.Native.Nat.{ℕ, _-_, _≤_, _<_};
 ghost use lib.ListN.{length, getD, take};
 ghost use Rattle.sums.specs.Lists.{from};
 ghost use Rattle.modelfile.proofs.Guaranteed.{Guaranteed};
 ghost use Rattle.plan.specs.Table.{row, Tabled};
-ghost use Rattle.plan.specs.Steps.{countBy, noNode, nodeMade, withNode, emptyTable, Few, Ready, Room};
+ghost use Rattle.plan.specs.Steps.{countBy, nodeBy, emptyTable, Few, Small};
 use crate::Chains;
 use crate::Node;
 use crate::Table;
@@ -42,39 +42,22 @@ fn totals_of(loads: &[u64; 128], centres: usize, chains: usize) -> [usize; 8]
     totals
 }
 
-fn node_at(t: Table, i: usize) -> Node
-    requires { ⌜ i < 31 ⌝ }
-    ensures { λ r. ⌜ r ≡ getD (t .nodes) i noNode ⌝ }
+// i less n, 0 where that is less than 0.
+pub fn back(i: usize, n: usize) -> usize
+    ensures { λ r. ⌜ r ≡ i - n ⌝ }
 {
-    t.nodes[i]
+    if n <= i { i - n } else { 0 }
 }
 
-// The entry of the next node: 0 is a join, any other number a leaf's centre.
-fn made(t: Table, ch: Chains, loads: &[u64; 128], node: usize) -> Node
-    requires { ⌜ Few ch × Ready t node ⌝ }
-    ensures { λ r. ⌜ r ≡ nodeMade ch (now (loads .entry)) t node ⌝ }
+// The entry of the next node: 0 is a join of the two entries, any other number a leaf's centre.
+fn made(ch: Chains, loads: &[u64; 128], left: Node, right: Node, base: usize, node: usize) -> Node
+    requires { ⌜ Few ch × (node ≤ 16) × (node ≡ 0 → Small left × Small right) ⌝ }
+    ensures { λ r. ⌜ r ≡ nodeBy ch (now (loads .entry)) left right base node ⌝ }
 {
-    let base = t.cells;
     if node == 0 {
-        let n = t.count;
-        let right = node_at(t, n - 1);
-        let left = node_at(t, n - 1 - right.span);
         return join_node(ch, left, right, base);
     }
     leaf_node(ch, loads, node, base)
-}
-
-fn with_node(t: Table, e: Node) -> Table
-    requires { ⌜ Room t e ⌝ }
-    ensures { λ r. ⌜ r ≡ withNode t e ⌝ }
-{
-    let n = t.count;
-    let mut next = t;
-    next.nodes[n] = e;
-    next.count = n + 1;
-    next.cells = t.cells + e.cells;
-    next.pairs = t.pairs + e.pairs;
-    next
 }
 
 pub fn empty_table(totals: [usize; 8]) -> Table
@@ -98,6 +81,7 @@ pub fn empty_table(totals: [usize; 8]) -> Table
     }
 }
 
+// The table grows where it stands: handed on, each node would cost a copy of all.
 pub fn make_table(m: Model, windows: [usize; 8]) -> Table
     requires { ⌜ Guaranteed m × ((k : ℕ) → getD windows k 0 ≤ 15) × (length windows ≡ 8) ⌝ }
     ensures { λ r. ⌜ Tabled m windows r ⌝ }
@@ -113,8 +97,16 @@ pub fn make_table(m: Model, windows: [usize; 8]) -> Table
     let mut t = empty_table(totals);
     let mut i = 0;
     while i < m.count {
-        let e = made(t, ch, &loads, nodes[i]);
-        t = with_node(t, e);
+        let n = t.count;
+        let r = back(n, 1);
+        let right = t.nodes[r];
+        let l = back(r, right.span);
+        let left = t.nodes[l];
+        let e = made(ch, &loads, left, right, t.cells, nodes[i]);
+        t.nodes[n] = e;
+        t.count = n + 1;
+        t.cells = t.cells + e.cells;
+        t.pairs = t.pairs + e.pairs;
         i += 1;
     }
     t
