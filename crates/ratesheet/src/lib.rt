@@ -51,9 +51,10 @@ fn run(m: Model, cells: u64, pairs: u64, area: &mut [u64]) -> SheetAnswer
     ensures { λ _. ⌜ Kept (cellsIn m (windowsOf m)) (now (area .entry)) (now (area .exit)) ⌝ }
 {
     let windows = m.windows;
-    match whole_value(m, windows, area) {
+    let rows = binomials::rows();
+    match whole_value(&rows, m, windows, area) {
         Fits::Exact(value) => {
-            let n = numerators(m, area);
+            let n = numerators(&rows, m, area);
             let full = Full {
                 value,
                 pairs,

@@ -5,6 +5,7 @@ ghost use lib.ListN.{length};
 ghost use Rattle.modelfile.specs.Network.{windowsOf};
 ghost use Rattle.modelfile.proofs.Guaranteed.{Guaranteed};
 ghost use Rattle.arith.specs.Capped.{capped};
+ghost use Rattle.binomials.specs.Rows.{rows as rowsOf};
 ghost use Rattle.calls.specs.Asked.{cellsIn};
 ghost use Rattle.calls.specs.Sheet.{numerator};
 ghost use Rattle.ratesheet.specs.Steps.{Kept, Numbered};
@@ -16,7 +17,8 @@ use plan::windows::lowered;
 use runs::whole::whole_value;
 
 // "A chain with window 0 has numerator 0 and isn't run."
-fn numerator(m: Model, chain: u64, area: &mut [u64]) -> Fits
+fn numerator(rows: &[u64], m: Model, chain: u64, area: &mut [u64]) -> Fits
+    requires { ⌜ now rows ≡ rowsOf ⌝ }
     requires { ⌜ Guaranteed m × (1 ≤ chain) × (cellsIn m (windowsOf m) ≤ length (now area)) ⌝ }
     ensures { λ r. ⌜ r ≡ capped (numerator m chain) ⌝ }
     ensures { λ _. ⌜ Kept (cellsIn m (windowsOf m)) (now (area .entry)) (now (area .exit)) ⌝ }
@@ -29,12 +31,13 @@ fn numerator(m: Model, chain: u64, area: &mut [u64]) -> Fits
             number: _,
             place: _,
         } => Fits::Exact(0),
-        Asked::Granted => whole_value(m, windows, area),
+        Asked::Granted => whole_value(rows, m, windows, area),
     }
 }
 
 // Up to the first that is too large.
-pub fn numerators(m: Model, area: &mut [u64]) -> Numerators
+pub fn numerators(rows: &[u64], m: Model, area: &mut [u64]) -> Numerators
+    requires { ⌜ now rows ≡ rowsOf ⌝ }
     requires { ⌜ Guaranteed m × (cellsIn m (windowsOf m) ≤ length (now area)) ⌝ }
     ensures { λ r. ⌜ Numbered m r ⌝ }
     ensures { λ _. ⌜ Kept (cellsIn m (windowsOf m)) (now (area .entry)) (now (area .exit)) ⌝ }
@@ -42,7 +45,7 @@ pub fn numerators(m: Model, area: &mut [u64]) -> Numerators
     let mut numbers = [0u64; 8];
     let mut k: usize = 0;
     while k < m.chains {
-        match numerator(m, k as u64 + 1, area) {
+        match numerator(rows, m, k as u64 + 1, area) {
             Fits::Exact(n) => {
                 numbers[k] = n;
                 k += 1;

@@ -105,5 +105,5 @@ module _ (m : Model) (windows : List ℕ) (t : Table) (p : Prepared m windows t)
               ap Fits.Exact ((λ i. getD (area-is i) (p .tabled .cells-are i - 1) 0) ∙ last-value m ws fits area room (t .pairs) reach (over-is ∙ e))
               ∙ sym (capped-exact (value-low m ws fits area room (t .pairs) reach (sym el ∙ low) (over-is ∙ e)))
 
-          pub last-inside : t .cells - 1 < length after
-          last-inside = omega (arith, length-whole, some-cells, p .tabled .cells-are)
+          pub last-inside : (1 ≤ t .cells) × (t .cells ≤ length after)
+          last-inside = (some-cells, omega (arith, length-whole, p .tabled .cells-are))

@@ -7,6 +7,7 @@ ghost use Rattle.sums.specs.Choice.{choose};
 ghost use Rattle.calls.specs.Advance.{advanceIn, advance};
 ghost use Rattle.plan.specs.Table.{windowsIn};
 ghost use Rattle.plan.specs.Asking.{Prepared};
+use crate::last_cell;
 use crate::no_room;
 use calls::AdvanceAnswer;
 use joins::Quota;
@@ -15,13 +16,13 @@ use plan::Asked;
 use plan::Table;
 use plan::asking::prepare;
 
-// The model's last cell, once all pairs are done.
+// The value, once all pairs are done.
 fn value_at(area: &[u64], t: Table, done: u64) -> u64
     requires { ⌜ (1 ≤ t .cells) × (t .cells ≤ length (now area)) ⌝ }
     ensures { λ r. ⌜ r ≡ choose (eqb done (t .pairs)) (λ u. getD (now (area .entry)) (t .cells - 1) 0) (λ u. 0) ⌝ }
 {
     if done == t.pairs {
-        area[t.cells - 1]
+        last_cell(area, t.cells)
     } else {
         0
     }

@@ -6,7 +6,9 @@ pub mod whole; // whole.rt: a whole run in one call
 
 ghost use mathlib.Core.Path.{_≡_};
 ghost use mathlib.Core.Bool.{_||_};
+ghost use Prim.Native.Nat.{_-_, _≤_};
 ghost use lib.Dec.{ltb};
+ghost use lib.ListN.{length, getD};
 ghost use Rattle.calls.specs.Start.{startIn, start};
 ghost use Rattle.plan.specs.Table.{windowsIn};
 ghost use Rattle.plan.specs.Asking.{Prepared};
@@ -26,6 +28,14 @@ pub fn no_room(cells: usize, length: usize) -> bool
         return true;
     }
     length < cells
+}
+
+// "The model's last cell."
+pub fn last_cell(area: &[u64], cells: usize) -> u64
+    requires { ⌜ (1 ≤ cells) × (cells ≤ length (now area)) ⌝ }
+    ensures { λ r. ⌜ r ≡ getD (now (area .entry)) (cells - 1) 0 ⌝ }
+{
+    area[cells - 1]
 }
 
 fn start_in(m: Model, windows: [usize; 8], t: Table, area: &mut [u64]) -> StartAnswer

@@ -7,8 +7,10 @@ ghost use Rattle.modelfile.specs.Network.{centresOf};
 ghost use Rattle.modelfile.proofs.Guaranteed.{Guaranteed};
 ghost use Rattle.calls.specs.Asked.{cellsIn};
 ghost use Rattle.arith.specs.Capped.{capped};
+ghost use Rattle.binomials.specs.Rows.{rows as rowsOf};
 use crate::fill::fill;
 use crate::fill::some_leaf_too_large;
+use crate::last_cell;
 use arith::Fits;
 use joins::Quota;
 use modelfile::Model;
@@ -16,18 +18,18 @@ use plan::tables::make_table;
 use spends::spend;
 
 // The cells past the model's stay as they are.
-pub fn whole_value(m: Model, windows: [usize; 8], area: &mut [u64]) -> Fits
+pub fn whole_value(rows: &[u64], m: Model, windows: [usize; 8], area: &mut [u64]) -> Fits
+    requires { ⌜ now rows ≡ rowsOf ⌝ }
     requires { ⌜ Guaranteed m × (length windows ≡ 8) × ((k : ℕ) → getD windows k 0 ≤ 15) ⌝ }
     requires { ⌜ cellsIn m (take (m .chains) windows) ≤ length (now area) ⌝ }
     ensures { λ r. ⌜ r ≡ capped (value (centresOf m) (take (m .chains) windows)) ⌝ }
     ensures { λ _. ⌜ (length (now (area .exit)) ≡ length (now (area .entry))) × (drop (cellsIn m (take (m .chains) windows)) (now (area .exit)) ≡ drop (cellsIn m (take (m .chains) windows)) (now (area .entry))) ⌝ }
 {
     let t = make_table(m, windows);
-    let rows = binomials::rows();
-    if some_leaf_too_large(&rows, m, windows, t) {
+    if some_leaf_too_large(rows, m, windows, t) {
         return Fits::TooLarge;
     }
-    fill(&rows, m, windows, t, area);
+    fill(rows, m, windows, t, area);
     let all = Quota {
         skip: 0,
         budget: t.pairs as usize,
@@ -37,5 +39,5 @@ pub fn whole_value(m: Model, windows: [usize; 8], area: &mut [u64]) -> Fits
     if left.over {
         return Fits::TooLarge;
     }
-    Fits::Exact(area[t.cells - 1])
+    Fits::Exact(last_cell(area, t.cells))
 }

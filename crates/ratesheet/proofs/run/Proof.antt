@@ -9,7 +9,7 @@ use Rattle.ratesheet.proofs.run.Tie as tie
 
 whole-value-requires : tie.Need-whole-value-requires
 unfolding windowsOf
-whole-value-requires c κs = ((c .before .before .before .pre .0 .0, c .before .before .before .pre .0 .0 .windows-long, c .before .before .before .pre .0 .0 .window-range), c .before .before .before .pre .0 .1)
+whole-value-requires c κs = (@rows .ensures, (@pre .0 .0, @pre .0 .0 .windows-long, @pre .0 .0 .window-range), @pre .0 .1)
 
 enum-known-value : tie.Need-enum-known-value
 enum-known-value c = search needs
@@ -19,7 +19,7 @@ numerators-requires c κs = search needs
 
 answer-requires : tie.Need-answer-requires
 unfolding windowsOf
-answer-requires c κs = (c .before .before .before .before .before .before .before .before .before .before .before .before .before .pre .0 .0, full-is _ (value-exact _ (c .before .before .before .before .before .before .before .before .before .whole-value .ensures .0) (c .before .before .before .before .before .value .given .1) .0) (c .before .before .before .before .before .before .before .before .before .before .before .before .before .pre .1 .1) (c .before .before .before .before .before .before .before .before .before .before .before .before .before .pre .1 .0), c .before .before .numerators .ensures .0)
+answer-requires c κs = (@pre .0 .0, full-is _ (value-exact _ (@whole-value .ensures .0) (@value .given .1) .0) (@pre .1 .1) (@pre .1 .0), @numerators .ensures .0)
 
 enum-told : tie.Need-enum-told
 enum-told c = search needs
@@ -32,14 +32,14 @@ same-length c = search needs
 
 returns : tie.Need-returns
 unfolding windowsOf
-returns c = (c .answer .ensures ∙ value-exact _ (c .before .before .before .before .before .before .before .before .before .before .whole-value .ensures .0) (c .before .before .before .before .before .before .value .given .1) .1, kept-then (value-kept _ _ _ (c .before .before .before .before .before .before .before .before .before .before .whole-value .ensures .1)) (c .before .before .before .numerators .ensures .1))
+returns c = (@answer .ensures ∙ value-exact _ (@whole-value .ensures .0) (@value .given .1) .1, kept-then (value-kept _ _ _ (@whole-value .ensures .1)) (@numerators .ensures .1))
 
 same-length-2 : tie.Need-same-length-2
 same-length-2 c = search needs
 
 returns-2 : tie.Need-returns-2
 unfolding windowsOf
-returns-2 c = (c .no-sheet .ensures ∙ value-large _ (c .before .before .before .before .before .whole-value .ensures .0) (c .before .enum-told .given .1), value-kept _ _ _ (c .before .before .before .before .before .whole-value .ensures .1))
+returns-2 c = (@no-sheet .ensures ∙ value-large _ (@whole-value .ensures .0) (@enum-told .given .1), value-kept _ _ _ (@whole-value .ensures .1))
 
 pub run-spec : {M : Type 1} → statement M
 run-spec =
