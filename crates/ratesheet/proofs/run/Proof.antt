@@ -7,19 +7,28 @@ use borrow.Author.Needs.{needs}
 use Rattle.ratesheet.proofs.run.Statement.{statement}
 use Rattle.ratesheet.proofs.run.Tie as tie
 
+rows-requires : tie.Need-rows-requires
+rows-requires c κs = search needs
+
+slice-aggregate-whole-value : tie.Need-slice-aggregate-whole-value
+slice-aggregate-whole-value c = search needs
+
 whole-value-requires : tie.Need-whole-value-requires
 unfolding windowsOf
-whole-value-requires c κs = (@rows .ensures, (@pre .0 .0, @pre .0 .0 .windows-long, @pre .0 .0 .window-range), @pre .0 .1)
+whole-value-requires c κs = (c .before .before .rows .ensures, ((c .before .before .before .before .before .pre .0 .0, c .before .before .before .before .before .pre .0 .0 .windows-long, c .before .before .before .before .before .pre .0 .0 .window-range), c .before .before .before .before .before .pre .0 .1))
 
 enum-known-value : tie.Need-enum-known-value
 enum-known-value c = search needs
+
+slice-aggregate-numerators : tie.Need-slice-aggregate-numerators
+slice-aggregate-numerators c = search needs
 
 numerators-requires : tie.Need-numerators-requires
 numerators-requires c κs = search needs
 
 answer-requires : tie.Need-answer-requires
 unfolding windowsOf
-answer-requires c κs = (@pre .0 .0, full-is _ (value-exact _ (@whole-value .ensures .0) (@value .given .1) .0) (@pre .1 .1) (@pre .1 .0), @numerators .ensures .0)
+answer-requires c κs = (c .before .before .before .before .before .before .before .before .before .before .before .before .before .before .before .before .pre .0 .0, full-is _ (value-exact _ (c .before .before .before .before .before .before .before .before .before .before .whole-value .ensures .0) (c .before .before .before .before .before .before .value .given .1) .0) (c .before .before .before .before .before .before .before .before .before .before .before .before .before .before .before .before .pre .1 .1) (c .before .before .before .before .before .before .before .before .before .before .before .before .before .before .before .before .pre .1 .0), c .before .before .numerators .ensures .0)
 
 enum-told : tie.Need-enum-told
 enum-told c = search needs
@@ -32,21 +41,24 @@ same-length c = search needs
 
 returns : tie.Need-returns
 unfolding windowsOf
-returns c = (@answer .ensures ∙ value-exact _ (@whole-value .ensures .0) (@value .given .1) .1, kept-then (value-kept _ _ _ (@whole-value .ensures .1)) (@numerators .ensures .1))
+returns c = (c .answer .ensures ∙ value-exact _ (c .before .before .before .before .before .before .before .before .before .before .before .whole-value .ensures .0) (c .before .before .before .before .before .before .before .value .given .1) .1, kept-then (value-kept _ _ _ (c .before .before .before .before .before .before .before .before .before .before .before .whole-value .ensures .1)) (c .before .before .before .numerators .ensures .1))
 
 same-length-2 : tie.Need-same-length-2
 same-length-2 c = search needs
 
 returns-2 : tie.Need-returns-2
 unfolding windowsOf
-returns-2 c = (@no-sheet .ensures ∙ value-large _ (@whole-value .ensures .0) (@enum-told .given .1), value-kept _ _ _ (@whole-value .ensures .1))
+returns-2 c = (c .no-sheet .ensures ∙ value-large _ (c .before .before .before .before .before .whole-value .ensures .0) (c .before .enum-told .given .1), value-kept _ _ _ (c .before .before .before .before .before .whole-value .ensures .1))
 
 pub run-spec : {M : Type 1} → statement M
 run-spec =
     tie.close
     (tie.spec
+    rows-requires
+    slice-aggregate-whole-value
     whole-value-requires
     enum-known-value
+    slice-aggregate-numerators
     numerators-requires
     answer-requires
     enum-told

@@ -17,16 +17,16 @@ enum-told-2 : tie.Need-enum-told-2
 enum-told-2 c = search needs
 
 whole-value-requires : tie.Need-whole-value-requires
-whole-value-requires c κs = (@pre .0, (@pre .1 .0, @lowered .ensures .long, @lowered .ensures .small), omega (arith, @pre .1 .2, run-cells _ (@pre .1 .0) _ _ (@lowered .ensures) (@enum-told2 .given .1)))
+whole-value-requires c κs = (c .before .before .before .before .before .before .before .pre .0, ((c .before .before .before .before .before .before .before .pre .1 .0, c .before .before .before .before .lowered .ensures .long, c .before .before .before .before .lowered .ensures .small), omega (arith, c .before .before .before .before .before .before .before .pre .1 .2, run-cells _ (c .before .before .before .before .before .before .before .pre .1 .0) _ _ (c .before .before .before .before .lowered .ensures) (c .before .enum-told2 .given .1))))
 
 returns : tie.Need-returns
-returns c = (not-run _ (@pre .1 .0) _ _ (@lowered .ensures) (@pre .1 .1) (@enum-told .given .1), kept-same _ _)
+returns c = (not-run _ (c .before .before .before .before .before .before .pre .1 .0) _ _ (c .before .before .before .lowered .ensures) (c .before .before .before .before .before .before .pre .1 .1) (c .enum-told .given .1), kept-same _ _)
 
 same-length : tie.Need-same-length
 same-length c = search needs
 
 returns-2 : tie.Need-returns-2
-returns-2 c = (@whole-value .ensures .0 ∙ ap capped (run-value _ (@pre .1 .0) _ _ (@lowered .ensures) (@enum-told2 .given .1)), kept-more _ _ _ _ (run-cells _ (@pre .1 .0) _ _ (@lowered .ensures) (@enum-told2 .given .1)) (@whole-value .ensures .1))
+returns-2 c = (c .before .before .whole-value .ensures .0 ∙ ap capped (run-value _ (c .before .before .before .before .before .before .before .before .before .before .pre .1 .0) _ _ (c .before .before .before .before .before .before .before .lowered .ensures) (c .before .before .before .before .enum-told2 .given .1)), kept-more _ _ _ _ (run-cells _ (c .before .before .before .before .before .before .before .before .before .before .pre .1 .0) _ _ (c .before .before .before .before .before .before .before .lowered .ensures) (c .before .before .before .before .enum-told2 .given .1)) (c .before .before .whole-value .ensures .1))
 
 pub numerator-spec : {M : Type 1} → statement M
 numerator-spec =
