@@ -26,7 +26,7 @@ map-flat f g (x ∷ xs) = map-append f (g x) (flatMap g xs) ∙ ap (λ z. map f 
 abbrev pub part : ℕ → ℕ → ℕ → ℕ → ℕ
 part acc before load n = acc * load ^ n * binomial (before + n) n
 
-chain-cells : (acc before load low high : ℕ) (loads lows highs : List ℕ) → cellsFrom acc before (load ∷ loads) (low ∷ lows) (high ∷ highs) ≡ flatMap (λ n. cellsFrom (part acc before load n) (before + n) loads lows highs) (from low (suc high - low))
+pub chain-cells : (acc before load low high : ℕ) (loads lows highs : List ℕ) → cellsFrom acc before (load ∷ loads) (low ∷ lows) (high ∷ highs) ≡ flatMap (λ n. cellsFrom (part acc before load n) (before + n) loads lows highs) (from low (suc high - low))
 unfolding cellsFrom between
 chain-cells acc before load low high loads lows highs =
     map-flat (λ ns. acc * weightAfter before (load ∷ loads) ns) (λ i. map (λ index. i ∷ index) (between lows highs)) (from low (suc high - low))

@@ -5,11 +5,11 @@ use mathlib.Core.List.{List, _++_}
 use native.Mathlib.Nat.{mul-assoc, pow-suc}
 use native.Mathlib.Numerals.{add-one}
 use native.Mathlib.Omega.{arith}
-use lib.ListN.{length, getD, take, drop}
+use lib.ListN.{length, getD, take, drop, set, length-set}
 use Rattle.network.specs.Weight.{binomial}
 use Rattle.weights.specs.Leaf.{between, LeafEnds}
 use Rattle.weights.specs.Parts.{weightAfter, cellsFrom, ToFill}
-use Rattle.weights.proofs.FillLaws.{part, Left, left-all, left-space, left-more, left-none, deeper-low, part-low, power-low}
+use Rattle.weights.proofs.FillLaws.{part, Left, left-all, left-space, left-more, left-none, one-cell, one-filled, deeper-low, part-low, power-low}
 
 pub record Filling (loads lows highs : List ℕ) (k acc before at : ℕ) (old : List ℕ) (load high i power next : ℕ) (out : List ℕ) : Type 0 where
   pub inside : k < length loads
@@ -77,6 +77,20 @@ module _ {loads lows highs : List ℕ} {k acc before at room : ℕ} (to : ToFill
               room = s ∙ f .room;
               left = left-now;
             }
+
+      -- of the last chain that is the one cell stored
+      module _ (last : k + 1 ≡ length loads) where
+        pub cell-inside : next < length out
+        cell-inside = omega (arith, deeper .space, one-cell ends (k + 1) last)
+
+        abbrev stored : List ℕ
+        stored = set out next (power * ways)
+
+        pub last-filled : i ≡ high → (next + 1 ≡ at + length (between (drop k lows) (drop k highs))) × (take (next + 1) stored ≡ take at old ++ cellsFrom acc before (drop k loads) (drop k lows) (drop k highs))
+        last-filled = let o = one-filled ends (k + 1) last (power * ways) (before + i) out next cell-inside in filled (next + 1) stored (o .0) (o .1)
+
+        pub last-more : i < high → Filling loads lows highs k acc before at old load high (i + 1) (power * load) (next + 1) stored
+        last-more h = let o = one-filled ends (k + 1) last (power * ways) (before + i) out next cell-inside in filling-more (next + 1) stored (o .0) (o .1) h (length-set out next (power * ways))
 
     pub power-more-low : i < high → power * load < 2 ^ 64
     power-more-low h =

@@ -1,21 +1,24 @@
--- A whole leaf: filling from its first chain on writes the weights.
-use Prim.Native.Nat.{ℕ, _+_, _^_, zero-le}
-use mathlib.Core.Path.{_≡_, sym, _∙_}
+-- A whole leaf: filling from the first chain present on writes the weights, since the chains present have all the cells.
+use Prim.Native.Nat.{ℕ, _+_, _^_, _≤_, _<_, zero-le}
+use mathlib.Core.Path.{_≡_, sym, ap, subst, _∙_}
 use mathlib.Core.Bool.{false}
-use mathlib.Core.List.{List, map, _++_}
+use mathlib.Core.List.{List, [], _∷_, map, _++_}
 use native.Mathlib.Omega.{arith}
 use lib.Dec.{leb}
-use lib.ListN.{length, take}
-use lib.Seq.{take-all}
+use lib.ListN.{length, take, set}
+use lib.Seq.{take-all, length-take-le}
 use Rattle.sums.specs.Lists.{some}
 use Rattle.sums.proofs.ListLaws.{map-cong}
-use Rattle.network.specs.Weight.{weight}
+use Rattle.network.specs.Weight.{weight, multinomial, powers}
 use Rattle.weights.specs.Leaf.{between, LeafEnds}
-use Rattle.weights.specs.Parts.{cellsFrom, ToFill}
+use Rattle.weights.specs.Parts.{weightAfter, cellsFrom, ToFill}
+use Rattle.weights.specs.Present.{present, Taken}
 use Rattle.weights.proofs.WeightLaws.{weight-whole}
 use Rattle.weights.proofs.BetweenLaws.{top-low}
+use Rattle.weights.proofs.FillLaws.{cells-length}
+use Rattle.weights.proofs.PresentLaws.{present-cells, present-ends}
 
-pub leaf-to-fill : {loads lows highs : List ℕ} → LeafEnds loads lows highs → (room : ℕ) → room ≡ length (between lows highs) → some (λ n. leb (2 ^ 64) n) (map (weight loads) (between lows highs)) ≡ false → ToFill loads lows highs 0 1 0 0 room
+leaf-to-fill : {loads lows highs : List ℕ} → LeafEnds loads lows highs → (room : ℕ) → room ≡ length (between lows highs) → some (λ n. leb (2 ^ 64) n) (map (weight loads) (between lows highs)) ≡ false → ToFill loads lows highs 0 1 0 0 room
 leaf-to-fill {loads} {lows} {highs} ends room e none =
     record { ends = ends; chain = zero-le; messages = zero-le; largest = omega (arith, weight-whole loads highs, top-low ends none); space = omega arith }
 
@@ -23,5 +26,40 @@ leaf-cells : (loads lows highs : List ℕ) → cellsFrom 1 0 loads lows highs �
 unfolding cellsFrom
 leaf-cells loads lows highs = map-cong (between lows highs) _ _ (λ ns m. weight-whole loads ns)
 
-pub leaf-filled : (loads lows highs old out : List ℕ) (r : ℕ) → length out ≡ length (between lows highs) → r ≡ 0 + length (between lows highs) → take r out ≡ take 0 old ++ cellsFrom 1 0 loads lows highs → out ≡ map (weight loads) (between lows highs)
-leaf-filled loads lows highs old out r s e l = sym (take-all r out (omega arith)) ∙ l ∙ leaf-cells loads lows highs
+pub taken-count : {highs xs : List ℕ} {n : ℕ} {kept : List ℕ} → Taken highs xs n kept → n ≡ length (take n kept)
+taken-count {n = n} {kept} t = sym (length-take-le n kept (omega (arith, t .room, t .few)))
+
+-- the first n of p, a and b are the loads and ends of the chains present
+module _ {loads lows highs : List ℕ} (ends : LeafEnds loads lows highs) {n : ℕ} {p a b : List ℕ} (tp : Taken highs loads n p) (ta : Taken highs lows n a) (tb : Taken highs highs n b) where
+  taken-ends : LeafEnds (take n p) (take n a) (take n b)
+  taken-ends = rw (tp .list, ta .list, tb .list) (present-ends ends)
+
+  taken-cells : cellsFrom 1 0 (take n p) (take n a) (take n b) ≡ cellsFrom 1 0 loads lows highs
+  taken-cells = (λ t. cellsFrom 1 0 (tp .list t) (ta .list t) (tb .list t)) ∙ present-cells 1 0 loads lows highs (ends .lows-length) (ends .highs-length) (ends .ordered)
+
+  taken-between : length (between (take n a) (take n b)) ≡ length (between lows highs)
+  taken-between = sym (cells-length 1 0 (take n p) (take n a) (take n b)) ∙ ap length taken-cells ∙ cells-length 1 0 loads lows highs
+
+  taken-weights : map (weight (take n p)) (between (take n a) (take n b)) ≡ map (weight loads) (between lows highs)
+  taken-weights = sym (leaf-cells (take n p) (take n a) (take n b)) ∙ taken-cells ∙ leaf-cells loads lows highs
+
+  pub taken-to-fill : (room : ℕ) → room ≡ length (between lows highs) → some (λ n. leb (2 ^ 64) n) (map (weight loads) (between lows highs)) ≡ false → ToFill (take n p) (take n a) (take n b) 0 1 0 0 room
+  taken-to-fill room e none = leaf-to-fill taken-ends room (e ∙ sym taken-between) (ap (some (λ n. leb (2 ^ 64) n)) taken-weights ∙ none)
+
+  pub taken-filled : (old out : List ℕ) (r : ℕ) → length out ≡ length (between lows highs) → r ≡ 0 + length (between (take n a) (take n b)) → take r out ≡ take 0 old ++ cellsFrom 1 0 (take n p) (take n a) (take n b) → out ≡ map (weight loads) (between lows highs)
+  taken-filled old out r s e l = sym (take-all r out (omega (arith, taken-between))) ∙ l ∙ leaf-cells (take n p) (take n a) (take n b) ∙ taken-weights
+
+  -- no chain is present
+  module _ (z : n ≡ 0) where
+    one-weight : map (weight loads) (between lows highs) ≡ 1 ∷ []
+    unfolding cellsFrom between weightAfter multinomial powers
+    one-weight = sym (taken-cells ∙ leaf-cells loads lows highs) ∙ λ t. cellsFrom 1 0 (take (z t) p) (take (z t) a) (take (z t) b)
+
+    pub one-room : length (between lows highs) ≡ 1
+    unfolding between
+    one-room = sym taken-between ∙ λ t. length (between (take (z t) a) (take (z t) b))
+
+    pub one-written : (old : List ℕ) → length old ≡ length (between lows highs) → set old 0 1 ≡ map (weight loads) (between lows highs)
+    one-written [] e = absurd (omega (arith, one-room))
+    one-written (x ∷ []) e = sym one-weight
+    one-written (x ∷ y ∷ old) e = absurd (omega (arith, one-room))

@@ -4,5 +4,6 @@ pub mod MonotonyLaws
 pub mod BetweenLaws
 pub mod FillLaws
 pub mod FillingLaws
+pub mod PresentLaws
 pub mod LeafLaws
 pub mod SpanLaws

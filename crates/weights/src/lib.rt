@@ -14,6 +14,7 @@ ghost use Rattle.network.specs.Centre.{visit, fits};
 ghost use Rattle.weights.specs.Ranges.{AtMost};
 ghost use Rattle.weights.specs.Leaf.{between, LeafEnds};
 ghost use Rattle.weights.specs.Parts.{cellsFrom, ToFill};
+ghost use Rattle.weights.specs.Present.{presence as presenceOf, Taken};
 
 fn times_power(acc: u64, load: u64, n: usize) -> Fits
     ensures { λ r. ⌜ r ≡ capped (acc * load ^ n) ⌝ }
@@ -94,6 +95,40 @@ fn exact_power(acc: u64, load: u64, n: usize) -> u64
     }
 }
 
+// The cells of the last chain: the loop of `fill` with a store where that has a call.
+fn fill_last(
+    rows: &[u64],
+    loads: &[u64],
+    lows: &[usize],
+    highs: &[usize],
+    k: usize,
+    acc: u64,
+    before: usize,
+    out: &mut [u64],
+    at: usize,
+) -> usize
+    requires { ⌜ (now rows ≡ rowsOf) × (k + 1 ≡ length (now loads)) ⌝ }
+    requires { ⌜ ToFill (now loads) (now lows) (now highs) k acc before at (length (now out)) ⌝ }
+    ensures { λ r. ⌜ r ≡ at + length (between (drop k (now (lows .entry))) (drop k (now (highs .entry)))) ⌝ }
+    ensures { λ r. ⌜ take r (now (out .exit)) ≡ take at (now (out .entry)) ++ cellsFrom acc before (drop k (now (loads .entry))) (drop k (now (lows .entry))) (drop k (now (highs .entry))) ⌝ }
+{
+    let load = loads[k];
+    let high = highs[k];
+    let mut i = lows[k];
+    let mut power = exact_power(acc, load, i);
+    let mut next = at;
+    loop {
+        let ways = binomials::binomial_in(rows, before + i, i);
+        out[next] = power * ways;
+        next += 1;
+        if i == high {
+            return next;
+        }
+        power = power * load;
+        i += 1;
+    }
+}
+
 // The cells of chain k and of those after it, from `at` on, where the chains before make `acc` and have `before` messages. Returns the
 // place after them. Nothing is too large, so the products need no test.
 fn fill(
@@ -107,14 +142,13 @@ fn fill(
     out: &mut [u64],
     at: usize,
 ) -> usize
-    requires { ⌜ now rows ≡ rowsOf ⌝ }
+    requires { ⌜ (now rows ≡ rowsOf) × (k < length (now loads)) ⌝ }
     requires { ⌜ ToFill (now loads) (now lows) (now highs) k acc before at (length (now out)) ⌝ }
     ensures { λ r. ⌜ r ≡ at + length (between (drop k (now (lows .entry))) (drop k (now (highs .entry)))) ⌝ }
     ensures { λ r. ⌜ take r (now (out .exit)) ≡ take at (now (out .entry)) ++ cellsFrom acc before (drop k (now (loads .entry))) (drop k (now (lows .entry))) (drop k (now (highs .entry))) ⌝ }
 {
-    if k == loads.len() {
-        out[at] = acc;
-        return at + 1;
+    if k + 1 == loads.len() {
+        return fill_last(rows, loads, lows, highs, k, acc, before, out, at);
     }
     let load = loads[k];
     let high = highs[k];
@@ -142,6 +176,49 @@ fn fill(
     }
 }
 
+// The chains that are present at a leaf, in their order: those whose highest index is not 0.
+struct Present {
+    count: usize,
+    loads: [u64; 8],
+    lows: [usize; 8],
+    highs: [usize; 8],
+}
+
+fn presence(high: usize) -> usize
+    ensures { λ r. ⌜ r ≡ presenceOf high ⌝ }
+{
+    if high == 0 { 0 } else { 1 }
+}
+
+// Each chain is written, and the next one over it where it is not present.
+fn those_present(loads: &[u64], lows: &[usize], highs: &[usize]) -> Present
+    requires { ⌜ LeafEnds (now loads) (now lows) (now highs) ⌝ }
+    ensures { λ r. ⌜ Taken (now (highs .entry)) (now (loads .entry)) (r .count) (r .loads) ⌝ }
+    ensures { λ r. ⌜ Taken (now (highs .entry)) (now (lows .entry)) (r .count) (r .lows) ⌝ }
+    ensures { λ r. ⌜ Taken (now (highs .entry)) (now (highs .entry)) (r .count) (r .highs) ⌝ }
+{
+    let mut p = [0u64; 8];
+    let mut a = [0usize; 8];
+    let mut b = [0usize; 8];
+    let mut n: usize = 0;
+    let mut k: usize = 0;
+    while k < loads.len() {
+        let high = highs[k];
+        p[n] = loads[k];
+        a[n] = lows[k];
+        b[n] = high;
+        n += presence(high);
+        k += 1;
+    }
+    Present {
+        count: n,
+        loads: p,
+        lows: a,
+        highs: b,
+    }
+}
+
+// A chain that stands at 0 changes no weight, so only those present are walked through.
 pub fn write_cells(rows: &[u64], loads: &[u64], lows: &[usize], highs: &[usize], out: &mut [u64])
     requires { ⌜ now rows ≡ rowsOf ⌝ }
     requires { ⌜ LeafEnds (now loads) (now lows) (now highs) ⌝ }
@@ -149,5 +226,14 @@ pub fn write_cells(rows: &[u64], loads: &[u64], lows: &[usize], highs: &[usize],
     requires { ⌜ some (λ n. leb (2 ^ 64) n) (map (weight (now loads)) (between (now lows) (now highs))) ≡ false ⌝ }
     ensures { λ _. ⌜ now (out .exit) ≡ map (weight (now (loads .entry))) (between (now (lows .entry)) (now (highs .entry))) ⌝ }
 {
-    fill(rows, loads, lows, highs, 0, 1, 0, out, 0);
+    let present = those_present(loads, lows, highs);
+    let n = present.count;
+    if n == 0 {
+        out[0] = 1;
+        return;
+    }
+    let p = present.loads;
+    let a = present.lows;
+    let b = present.highs;
+    fill(rows, &p[..n], &a[..n], &b[..n], 0, 1, 0, out, 0);
 }

@@ -1,11 +1,10 @@
--- `fill` meets its contract, by recursion on the chains that are left. Each turn of the loop writes the cells with one number of messages
--- of chain k; what it asks for and leaves is in FillingLaws.
-use Prim.Native.Nat.{ℕ, _-_, _<_}
+-- `fill` meets its contract, by recursion on the chains that are left, down to `fill_last`. Each turn of the loop writes the cells with one
+-- number of messages of chain k; what it asks for and leaves is in FillingLaws.
+use Prim.Native.Nat.{ℕ, _+_, _-_, _<_}
 use mathlib.Core.Path.{refl}
 use native.Mathlib.Omega.{arith}
 use lib.ListN.{length}
 use borrow.Author.Needs.{needs}
-use Rattle.weights.proofs.FillLaws.{one-cell, one-filled}
 use Rattle.weights.proofs.FillingLaws.{Filling, start-low, filling-start, index-small, sum-small, product-low, deeper, filled, filling-more, power-more-low}
 use borrow.Fn.Kinds.{In}
 use borrow.Fn.PlainCycle.{Measures, is, falls, and}
@@ -14,6 +13,7 @@ use Rattle.weights.proofs.fill.Kinds as fill-kinds
 use Rattle.weights.proofs.+fill.Lts-fill as fill-lts
 use Rattle.binomials.proofs.binomial_in.Reads as binomial-in-reads
 use Rattle.weights.proofs.exact_power.Reads as exact-power-reads
+use Rattle.weights.proofs.fill_last.Reads as fill-last-reads
 use Rattle.weights.proofs.+fill.{statement}
 use Rattle.weights.proofs.+fill.Tie.{close}
 
@@ -26,9 +26,9 @@ fill-at t = and 5 fill-kinds.ps (is 5 fill-kinds.ps μ-fill t) fill.Pre
 abbrev fill-below : ℕ → In 5 fill-kinds.ps
 fill-below t = and 5 fill-kinds.ps (falls 5 fill-kinds.ps _<_ μ-fill t) fill.Pre
 
--- what the calls ask and tell: `exact_power`, `binomial_in` and `fill` itself, of fewer chains
+-- what the calls ask and tell: `fill_last`, `exact_power`, `binomial_in` and `fill` itself, of fewer chains
 abbrev calls : ℕ → fill-lts.Claims
-calls t = (exact-power-reads.Asked, exact-power-reads.Learnt, binomial-in-reads.Asked, binomial-in-reads.Learnt, fill-below t, fill.Post)
+calls t = (fill-last-reads.Asked, fill-last-reads.Learnt, exact-power-reads.Asked, exact-power-reads.Learnt, binomial-in-reads.Asked, binomial-in-reads.Learnt, fill-below t, fill.Post)
 
 abbrev fill-Inv-loop : fill-lts.InvT-loop
 fill-Inv-loop rows loads lows highs k acc before out₀ at load high i₀ power₀ next₀ out i power next =
@@ -38,148 +38,77 @@ abbrev fill-μ-loop : fill-lts.MeasureT-loop
 fill-μ-loop rows loads lows highs k acc before out₀ at load high i₀ power₀ next₀ out i power next =
     high - i
 
-fill-mul-out : (t : ℕ) → fill-lts.Need-mul-out (calls t) (fill-at t) fill.Post fill-Inv-loop fill-μ-loop
-fill-mul-out t c = search needs
+fill-add-if1 : (t : ℕ) → fill-lts.Need-add-if1 (calls t) (fill-at t) fill.Post fill-Inv-loop fill-μ-loop
+fill-add-if1 t c = omega (arith, c .before .before .before .before .before .pre .1 .1 .chain, c .before .before .before .before .before .pre .1 .1 .ends .few)
 
-fill-slice-write-out : (t : ℕ) → fill-lts.Need-slice-write-out (calls t) (fill-at t) fill.Post fill-Inv-loop fill-μ-loop
-fill-slice-write-out t c =
-    let s = c .before .before .before .before .before .before in
-    let to = s .pre .1 .1 in
-    omega (arith, to .space, one-cell (to .ends) (s .args .k) (c .if1 .taken))
-
-fill-add-result : (t : ℕ) → fill-lts.Need-add-result (calls t) (fill-at t) fill.Post fill-Inv-loop fill-μ-loop
-fill-add-result t c =
-    let s = c .before .before .before .before .before .before in
-    let to = s .pre .1 .1 in
-    omega (arith, to .space, one-cell (to .ends) (s .args .k) (c .if1 .taken))
+fill-fill-last-requires : (t : ℕ) → fill-lts.Need-fill-last-requires (calls t) (fill-at t) fill.Post fill-Inv-loop fill-μ-loop
+fill-fill-last-requires t c κs = ((c .before .before .before .before .before .before .before .pre .1 .0 .0, c .before .if1 .taken), c .before .before .before .before .before .before .before .pre .1 .1)
 
 fill-same-length : (t : ℕ) → fill-lts.Need-same-length (calls t) (fill-at t) fill.Post fill-Inv-loop fill-μ-loop
 fill-same-length t c = search needs
 
 fill-returns : (t : ℕ) → fill-lts.Need-returns (calls t) (fill-at t) fill.Post fill-Inv-loop fill-μ-loop
-fill-returns t c =
-    let s = c .before .before .before .before .before .before in
-    let to = s .pre .1 .1 in
-    one-filled (to .ends) (s .args .k) (c .if1 .taken) (s .args .acc) (s .args .before) (s .args .out .now) (s .args .at) (omega (arith, to .space, one-cell (to .ends) (s .args .k) (c .if1 .taken)))
+fill-returns t c = c .before .before .fill-last .ensures
 
 fill-mul-load : (t : ℕ) → fill-lts.Need-mul-load (calls t) (fill-at t) fill.Post fill-Inv-loop fill-μ-loop
 fill-mul-load t c = search needs
 
 fill-shared-slice-read-load : (t : ℕ) → fill-lts.Need-shared-slice-read-load (calls t) (fill-at t) fill.Post fill-Inv-loop fill-μ-loop
-fill-shared-slice-read-load t c =
-    let s = c .before .before .before .before .before .before .before in
-    let to = s .pre .1 .1 in
-    omega (arith, to .chain)
+fill-shared-slice-read-load t c = omega (arith, c .before .before .before .before .before .before .before .pre .1 .0 .1)
 
 fill-mul-high : (t : ℕ) → fill-lts.Need-mul-high (calls t) (fill-at t) fill.Post fill-Inv-loop fill-μ-loop
 fill-mul-high t c = search needs
 
 fill-shared-slice-read-high : (t : ℕ) → fill-lts.Need-shared-slice-read-high (calls t) (fill-at t) fill.Post fill-Inv-loop fill-μ-loop
-fill-shared-slice-read-high t c =
-    let s = c .before .before .before .before .before .before .before .before in
-    let to = s .pre .1 .1 in
-    omega (arith, to .chain, to .ends .highs-length)
+fill-shared-slice-read-high t c = omega (arith, c .before .before .before .before .before .before .before .before .pre .1 .0 .1, c .before .before .before .before .before .before .before .before .pre .1 .1 .ends .highs-length)
 
 fill-mul-i : (t : ℕ) → fill-lts.Need-mul-i (calls t) (fill-at t) fill.Post fill-Inv-loop fill-μ-loop
 fill-mul-i t c = search needs
 
 fill-shared-slice-read-i : (t : ℕ) → fill-lts.Need-shared-slice-read-i (calls t) (fill-at t) fill.Post fill-Inv-loop fill-μ-loop
-fill-shared-slice-read-i t c =
-    let s = c .before .before .before .before .before .before .before .before .before in
-    let to = s .pre .1 .1 in
-    omega (arith, to .chain, to .ends .lows-length)
+fill-shared-slice-read-i t c = omega (arith, c .before .before .before .before .before .before .before .before .before .pre .1 .0 .1, c .before .before .before .before .before .before .before .before .before .pre .1 .1 .ends .lows-length)
 
 fill-exact-power-requires : (t : ℕ) → fill-lts.Need-exact-power-requires (calls t) (fill-at t) fill.Post fill-Inv-loop fill-μ-loop
-fill-exact-power-requires t c κs =
-    let s = c .before .before .before .before .before .before .before .before .before in
-    let to = s .pre .1 .1 in
-    start-low to (omega (arith, to .chain))
+fill-exact-power-requires t c κs = start-low (c .before .before .before .before .before .before .before .before .before .pre .1 .1) (c .before .before .before .before .before .before .before .before .before .pre .1 .0 .1)
 
 fill-loop-holds : (t : ℕ) → fill-lts.Need-loop-holds (calls t) (fill-at t) fill.Post fill-Inv-loop fill-μ-loop
-fill-loop-holds t c =
-    let s = c .before .before .before .before .before .before .before .before .before .before in
-    let to = s .pre .1 .1 in
-    filling-start to _ _ (omega (arith, to .chain)) (c .exact-power .ensures)
+fill-loop-holds t c = filling-start (c .before .before .before .before .before .before .before .before .before .before .pre .1 .1) _ _ (c .before .before .before .before .before .before .before .before .before .before .pre .1 .0 .1) (c .exact-power .ensures)
 
 fill-add-binomial-in : (t : ℕ) → fill-lts.Need-add-binomial-in (calls t) (fill-at t) fill.Post fill-Inv-loop fill-μ-loop
-fill-add-binomial-in t c =
-    let s = c .before .before .before .before .before .before .before .before .before .before .before in
-    let to = s .pre .1 .1 in
-    let f = c .loop .inv in
-    omega (arith, sum-small to refl f)
+fill-add-binomial-in t c = omega (arith, sum-small (c .before .before .before .before .before .before .before .before .before .before .before .pre .1 .1) refl (c .loop .inv))
 
 fill-binomial-in-requires : (t : ℕ) → fill-lts.Need-binomial-in-requires (calls t) (fill-at t) fill.Post fill-Inv-loop fill-μ-loop
-fill-binomial-in-requires t c κs =
-    let s = c .before .before .before .before .before .before .before .before .before .before .before in
-    let to = s .pre .1 .1 in
-    let f = c .loop .inv in
-    (s .pre .1 .0, (sum-small to refl f, index-small to refl f))
+fill-binomial-in-requires t c κs = (c .before .before .before .before .before .before .before .before .before .before .before .pre .1 .0 .0, (sum-small (c .before .before .before .before .before .before .before .before .before .before .before .pre .1 .1) refl (c .loop .inv), index-small (c .before .before .before .before .before .before .before .before .before .before .before .pre .1 .1) refl (c .loop .inv)))
 
 fill-add-fill : (t : ℕ) → fill-lts.Need-add-fill (calls t) (fill-at t) fill.Post fill-Inv-loop fill-μ-loop
-fill-add-fill t c =
-    let s = c .before .before .before .before .before .before .before .before .before .before .before .before in
-    let to = s .pre .1 .1 in
-    let f = c .before .loop .inv in
-    omega (arith, f .inside)
+fill-add-fill t c = omega (arith, c .before .loop .inv .inside)
 
 fill-mul-fill : (t : ℕ) → fill-lts.Need-mul-fill (calls t) (fill-at t) fill.Post fill-Inv-loop fill-μ-loop
-fill-mul-fill t c =
-    let s = c .before .before .before .before .before .before .before .before .before .before .before .before in
-    let to = s .pre .1 .1 in
-    let f = c .before .loop .inv in
-    record { fits = product-low to refl f _ (c .binomial-in .ensures) }
+fill-mul-fill t c = record { fits = product-low (c .before .before .before .before .before .before .before .before .before .before .before .before .pre .1 .1) refl (c .before .loop .inv) _ (c .binomial-in .ensures) }
 
 fill-add-fill-2 : (t : ℕ) → fill-lts.Need-add-fill-2 (calls t) (fill-at t) fill.Post fill-Inv-loop fill-μ-loop
-fill-add-fill-2 t c =
-    let s = c .before .before .before .before .before .before .before .before .before .before .before .before in
-    let to = s .pre .1 .1 in
-    let f = c .before .loop .inv in
-    omega (arith, sum-small to refl f)
+fill-add-fill-2 t c = omega (arith, sum-small (c .before .before .before .before .before .before .before .before .before .before .before .before .pre .1 .1) refl (c .before .loop .inv))
 
 fill-fill-requires : (t : ℕ) → fill-lts.Need-fill-requires (calls t) (fill-at t) fill.Post fill-Inv-loop fill-μ-loop
-fill-fill-requires t c κs =
-    let s = c .before .before .before .before .before .before .before .before .before .before .before .before .before in
-    let to = s .pre .1 .1 in
-    let f = c .before .before .loop .inv in
-    (omega (arith, s .pre .0, f .inside), (s .pre .1 .0, deeper to refl f _ (c .before .binomial-in .ensures)))
+fill-fill-requires t c κs = (omega (arith, c .before .before .before .before .before .before .before .before .before .before .before .before .before .pre .0, c .before .before .loop .inv .inside), ((c .before .before .before .before .before .before .before .before .before .before .before .before .before .pre .1 .0 .0, omega (arith, c .before .before .before .before .before .before .before .if1 .left, c .before .before .loop .inv .inside)), deeper (c .before .before .before .before .before .before .before .before .before .before .before .before .before .pre .1 .1) refl (c .before .before .loop .inv) _ (c .before .binomial-in .ensures)))
 
 fill-same-length-2 : (t : ℕ) → fill-lts.Need-same-length-2 (calls t) (fill-at t) fill.Post fill-Inv-loop fill-μ-loop
 fill-same-length-2 t c = search needs
 
 fill-returns-2 : (t : ℕ) → fill-lts.Need-returns-2 (calls t) (fill-at t) fill.Post fill-Inv-loop fill-μ-loop
-fill-returns-2 t c =
-    let s = c .before .before .before .before .before .before .before .before .before .before .before .before .before .before .before .before .before in
-    let to = s .pre .1 .1 in
-    let f = c .before .before .before .before .before .before .loop .inv in
-    filled to refl f _ (c .before .before .before .before .before .binomial-in .ensures) _ (c .before .before .before .fill .last .1 .1 .1 .1 .1 .1 .1 .0) (c .before .before .before .fill .ensures .0) (c .before .before .before .fill .ensures .1) (c .if2 .taken)
+fill-returns-2 t c = filled (c .before .before .before .before .before .before .before .before .before .before .before .before .before .before .before .before .before .pre .1 .1) refl (c .before .before .before .before .before .before .loop .inv) _ (c .before .before .before .before .before .binomial-in .ensures) _ (c .before .before .before .fill .last .1 .1 .1 .1 .1 .1 .1 .0) (c .before .before .before .fill .ensures .0) (c .before .before .before .fill .ensures .1) (c .if2 .taken)
 
 fill-mul-power : (t : ℕ) → fill-lts.Need-mul-power (calls t) (fill-at t) fill.Post fill-Inv-loop fill-μ-loop
-fill-mul-power t c =
-    let s = c .before .before .before .before .before .before .before .before .before .before .before .before .before .before .before .before .before in
-    let to = s .pre .1 .1 in
-    let f = c .before .before .before .before .before .before .loop .inv in
-    record { fits = power-more-low to refl f (omega (arith, f .index)) }
+fill-mul-power t c = record { fits = power-more-low (c .before .before .before .before .before .before .before .before .before .before .before .before .before .before .before .before .before .pre .1 .1) refl (c .before .before .before .before .before .before .loop .inv) (omega (arith, c .before .before .before .before .before .before .loop .inv .index)) }
 
 fill-add-i : (t : ℕ) → fill-lts.Need-add-i (calls t) (fill-at t) fill.Post fill-Inv-loop fill-μ-loop
-fill-add-i t c =
-    let s = c .before .before .before .before .before .before .before .before .before .before .before .before .before .before .before .before .before in
-    let to = s .pre .1 .1 in
-    let f = c .before .before .before .before .before .before .loop .inv in
-    omega (arith, index-small to refl f)
+fill-add-i t c = omega (arith, index-small (c .before .before .before .before .before .before .before .before .before .before .before .before .before .before .before .before .before .pre .1 .1) refl (c .before .before .before .before .before .before .loop .inv))
 
 fill-loop-less : (t : ℕ) → fill-lts.Need-loop-less (calls t) (fill-at t) fill.Post fill-Inv-loop fill-μ-loop
-fill-loop-less t c =
-    let s = c .before .before .before .before .before .before .before .before .before .before .before .before .before .before .before .before .before in
-    let to = s .pre .1 .1 in
-    let f = c .before .before .before .before .before .before .loop .inv in
-    omega (arith, f .index)
+fill-loop-less t c = omega (arith, c .before .before .before .before .before .before .loop .inv .index)
 
 fill-loop-again : (t : ℕ) → fill-lts.Need-loop-again (calls t) (fill-at t) fill.Post fill-Inv-loop fill-μ-loop
-fill-loop-again t c =
-    let s = c .before .before .before .before .before .before .before .before .before .before .before .before .before .before .before .before .before in
-    let to = s .pre .1 .1 in
-    let f = c .before .before .before .before .before .before .loop .inv in
-    filling-more to refl f _ (c .before .before .before .before .before .binomial-in .ensures) _ (c .before .before .before .fill .last .1 .1 .1 .1 .1 .1 .1 .0) (c .before .before .before .fill .ensures .0) (c .before .before .before .fill .ensures .1) (omega (arith, f .index)) (omega (arith, c .before .before .before .fill .kept .1 .1 .1 .1 .1 .1 .1 .0))
+fill-loop-again t c = filling-more (c .before .before .before .before .before .before .before .before .before .before .before .before .before .before .before .before .before .pre .1 .1) refl (c .before .before .before .before .before .before .loop .inv) _ (c .before .before .before .before .before .binomial-in .ensures) _ (c .before .before .before .fill .last .1 .1 .1 .1 .1 .1 .1 .0) (c .before .before .before .fill .ensures .0) (c .before .before .before .fill .ensures .1) (omega (arith, c .before .before .before .before .before .before .loop .inv .index)) (omega (arith, c .before .before .before .fill .kept .1 .1 .1 .1 .1 .1 .1 .0))
 
 pub +fill-spec : {M : Type 1} → statement M
 +fill-spec = close μ-fill λ t. fill-lts.spec (calls t)
@@ -187,9 +116,8 @@ pub +fill-spec : {M : Type 1} → statement M
     fill.Post
     fill-Inv-loop
     fill-μ-loop
-    (fill-mul-out t)
-    (fill-slice-write-out t)
-    (fill-add-result t)
+    (fill-add-if1 t)
+    (fill-fill-last-requires t)
     (fill-same-length t)
     (fill-returns t)
     (fill-mul-load t)

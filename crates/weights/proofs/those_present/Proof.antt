@@ -1,0 +1,108 @@
+-- `those_present` meets its contract: what is kept so far and what of the rest is present make up those present.
+use Prim.Native.Nat.{_-_, _≤_, _<_}
+use mathlib.Core.Path.{refl, sym, _∙_}
+use native.Mathlib.Omega.{arith}
+use lib.ListN.{length}
+use borrow.Author.Needs.{needs}
+use Rattle.weights.proofs.PresentLaws.{Keeping, presence-low, keeping-start, keeping-low, keeping-more, keeping-done}
+use Rattle.weights.proofs.those_present.Statement.{statement}
+use Rattle.weights.proofs.those_present.Tie as tie
+
+abbrev Inv-loop : tie.InvT-loop
+Inv-loop loads lows highs p₀ a₀ b₀ n₀ k₀ p a b n k = Keeping highs loads k n p × Keeping highs lows k n a × Keeping highs highs k n b
+
+abbrev μ-loop : tie.MeasureT-loop
+μ-loop loads lows highs p₀ a₀ b₀ n₀ k₀ p a b n k = length loads - k
+
+loop-holds : tie.Need-loop-holds Inv-loop μ-loop
+loop-holds c = (keeping-start _ _, keeping-start _ _, keeping-start _ _)
+
+mul-high : tie.Need-mul-high Inv-loop μ-loop
+mul-high c = search needs
+
+shared-slice-read-high : tie.Need-shared-slice-read-high Inv-loop μ-loop
+shared-slice-read-high c = search needs
+
+mul-p : tie.Need-mul-p Inv-loop μ-loop
+mul-p c = search needs
+
+shared-slice-read-p : tie.Need-shared-slice-read-p Inv-loop μ-loop
+shared-slice-read-p c = search needs
+
+mul-p-2 : tie.Need-mul-p-2 Inv-loop μ-loop
+mul-p-2 c = search needs
+
+array-write-p : tie.Need-array-write-p Inv-loop μ-loop
+array-write-p c = search needs
+
+mul-a : tie.Need-mul-a Inv-loop μ-loop
+mul-a c = search needs
+
+shared-slice-read-a : tie.Need-shared-slice-read-a Inv-loop μ-loop
+shared-slice-read-a c = search needs
+
+mul-a-2 : tie.Need-mul-a-2 Inv-loop μ-loop
+mul-a-2 c = search needs
+
+array-write-a : tie.Need-array-write-a Inv-loop μ-loop
+array-write-a c = search needs
+
+mul-b : tie.Need-mul-b Inv-loop μ-loop
+mul-b c = search needs
+
+array-write-b : tie.Need-array-write-b Inv-loop μ-loop
+array-write-b c = search needs
+
+presence-requires : tie.Need-presence-requires Inv-loop μ-loop
+presence-requires c κs = search needs
+
+add-n : tie.Need-add-n Inv-loop μ-loop
+add-n c = omega (arith, presence-low _ _ (c .presence .ensures), keeping-low (c .before .before .before .before .before .loop .inv .0) (omega (arith, c .before .before .before .before .before .before .before .before .before .pre .few, c .before .before .before .before .before .before .before .before .before .pre .highs-length)))
+
+add-k : tie.Need-add-k Inv-loop μ-loop
+add-k c = search needs
+
+loop-less : tie.Need-loop-less Inv-loop μ-loop
+loop-less c = search needs
+
+loop-again : tie.Need-loop-again Inv-loop μ-loop
+loop-again c =
+    let ends = c .before .before .before .before .before .before .before .before .before .pre in
+    let v = c .before .before .before .before .before .loop .inv in
+    let most : length (c .before .before .before .before .before .before .before .before .before .args .highs .now) ≤ 8 = omega (arith, ends .few, ends .highs-length) in
+    let h : c .before .before .before .before .before .loop .k < length (c .before .before .before .before .before .before .before .before .before .args .highs .now) = omega (arith, ends .highs-length) in
+    let e = c .presence .ensures in
+    (keeping-more (v .0) most h (sym (ends .highs-length)) _ e, keeping-more (v .1) most h (ends .lows-length ∙ sym (ends .highs-length)) _ e, keeping-more (v .2) most h refl _ e)
+
+returns : tie.Need-returns Inv-loop μ-loop
+returns c =
+    let v = c .before .loop .inv in
+    let most : length (c .before .before .before .before .before .args .highs .now) ≤ 8 = omega (arith, c .before .before .before .before .before .pre .few, c .before .before .before .before .before .pre .highs-length) in
+    let h : length (c .before .before .before .before .before .args .highs .now) ≤ c .before .loop .k = omega (arith, c .before .before .before .before .before .pre .highs-length) in
+    (keeping-done (v .0) most h, (keeping-done (v .1) most h, keeping-done (v .2) most h))
+
+pub those-present-spec : {M : Type 1} → statement M
+those-present-spec =
+    tie.close
+    (tie.spec
+    Inv-loop
+    μ-loop
+    loop-holds
+    mul-high
+    shared-slice-read-high
+    mul-p
+    shared-slice-read-p
+    mul-p-2
+    array-write-p
+    mul-a
+    shared-slice-read-a
+    mul-a-2
+    array-write-a
+    mul-b
+    array-write-b
+    presence-requires
+    add-n
+    add-k
+    loop-less
+    loop-again
+    returns)
