@@ -85,3 +85,8 @@ walk-spend (p ∷ ps) zero (suc b) done A = by (ltb (sumAt A p) (2 ^ 64)) (walk-
     by false h =
         walk-over ps 0 (suc b) A
         ∙ (let e : 0 ≡ 0 - suc (length ps) = omega arith in let f : suc b ≡ suc b + done - done = omega arith in λ i. record { skip = e i; budget = f i; over = true; area = A })
+
+-- without a budget pairs are only skipped
+pub walk-none : (ps : List Pair) (k : ℕ) (A : List ℕ) → walk ps (record { skip = k; budget = 0; over = false; area = A }) ≡ record { skip = k - length ps; budget = 0; over = false; area = A }
+unfolding spend
+walk-none ps k A = walk-spend ps k 0 0 A
