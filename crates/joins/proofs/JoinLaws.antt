@@ -22,7 +22,7 @@ use Rattle.joins.proofs.MeetLaws.{chains, chains-span, chains-stride, c
 use Rattle.joins.proofs.SoundLaws.{flatRows, pairsIn, lastLeft, lastRight, ended, Parts, Bounds, chains-sound}
 use Rattle.joins.proofs.FlatLaws.{Low, chains-low, chains-flat}
 
-length-strides : (ss : List Span) → length (strides ss) ≡ length ss
+pub length-strides : (ss : List Span) → length (strides ss) ≡ length ss
 unfolding strides
 length-strides [] = refl
 length-strides (s ∷ ss) = ap suc (length-strides ss)

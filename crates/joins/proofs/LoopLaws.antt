@@ -11,7 +11,7 @@ use lib.ListN.{length, getD, set, take, drop, length-set}
 use lib.Seq.{take-all, set-set, set-getD, set-out}
 use Rattle.sums.specs.Lists.{from}
 use Rattle.network.specs.Pairs.{Pair}
-use Rattle.joins.specs.Walk.{State, walk}
+use Rattle.joins.specs.Walk.{State, walk, ended, nextTurn}
 use Rattle.joins.specs.Loops.{cellPairs, loopPairs, At, Numbers, times, Sound}
 use Rattle.joins.specs.declared.Join.{Join}
 use Rattle.joins.proofs.TurnLaws.{ahead, ahead-all, Walked, walk-again, walk-ends}
@@ -30,9 +30,10 @@ module _ (join : Join) (n p a b c : ℕ) (loops rows : List ℕ) (l r t : ℕ) w
   pub loopTurn : ℕ → List Pair
   loopTurn i = loopPairs join loops (set rows p (i + 1)) (l + i * a) (r + i * b) (t + i * c)
 
-  pub loop-again : (s₀ s u : State) (i : ℕ) → Walked loopTurn n s₀ s i → i < n → (rows' : List ℕ) → rows' ≡ set rows p (i + 1) → u ≡ walk (loopPairs join loops rows' (l + i * a) (r + i * b) (t + i * c)) s → Walked loopTurn n s₀ u (i + 1)
+  pub loop-again : (s₀ s u : State) (i k : ℕ) → Walked loopTurn n s₀ s i → i < n → (rows' : List ℕ) → rows' ≡ set rows p (i + 1) → u ≡ walk (loopPairs join loops rows' (l + i * a) (r + i * b) (t + i * c)) s
+      → k ≡ nextTurn (ended (u .over) (u .skip) (u .budget)) i n → Walked loopTurn n s₀ u k
   unfolding loopTurn
-  loop-again s₀ s u i w h rows' er e = walk-again loopTurn n s₀ s u i w h (e ∙ ap (λ x. walk (loopPairs join loops x (l + i * a) (r + i * b) (t + i * c)) s) er)
+  loop-again s₀ s u i k w h rows' er e next = walk-again loopTurn n s₀ s u i k w h (e ∙ ap (λ x. walk (loopPairs join loops x (l + i * a) (r + i * b) (t + i * c)) s) er) next
 
   loop-turns : loopPairs join (n ∷ p ∷ a ∷ b ∷ c ∷ loops) rows l r t ≡ ahead loopTurn n 0
   unfolding loopPairs loopTurn
@@ -58,10 +59,10 @@ unfolding Sound
 last-at size join rows l r t count s = s
 
 module _ (join : Join) (n p a b c : ℕ) (rows : List ℕ) (l r t : ℕ) where
-  pub last-again : (s₀ s u : State) (i : ℕ) → Walked (loopTurn join n p a b c [] rows l r t) n s₀ s i → i < n → (rows' : List ℕ) → rows' ≡ set rows p (i + 1)
-      → u ≡ walk (cellPairs join rows' (l + i * a) (r + i * b) (t + i * c)) s → Walked (loopTurn join n p a b c [] rows l r t) n s₀ u (i + 1)
+  pub last-again : (s₀ s u : State) (i k : ℕ) → Walked (loopTurn join n p a b c [] rows l r t) n s₀ s i → i < n → (rows' : List ℕ) → rows' ≡ set rows p (i + 1)
+      → u ≡ walk (cellPairs join rows' (l + i * a) (r + i * b) (t + i * c)) s → k ≡ nextTurn (ended (u .over) (u .skip) (u .budget)) i n → Walked (loopTurn join n p a b c [] rows l r t) n s₀ u k
   unfolding loopPairs
-  last-again s₀ s u i w h rows' er e = loop-again join n p a b c [] rows l r t s₀ s u i w h rows' er e
+  last-again s₀ s u i k w h rows' er e next = loop-again join n p a b c [] rows l r t s₀ s u i k w h rows' er e next
 
 -- ---- the place that a loop writes, and restores
 

@@ -1,8 +1,8 @@
 -- Walks: over two lists one after the other; over a list that is all skipped; after the end; and what `spend` has to do with them. By
 -- induction over the pairs.
 use Prim.Native.Nat.{ℕ, zero, suc, _+_, _-_, _^_, _≤_}
-use mathlib.Core.Path.{_≡_, refl, ap, _∙_}
-use mathlib.Core.Bool.{Bool, true, false}
+use mathlib.Core.Path.{_≡_, refl, sym, ap, _∙_}
+use mathlib.Core.Bool.{Bool, true, false, true≢false}
 use mathlib.Core.List.{List, [], _∷_, _++_}
 use native.Mathlib.Nat.{sub-zero, not-suc-le-zero, le-of-suc-le-suc}
 use native.Mathlib.Omega.{arith}
@@ -11,7 +11,7 @@ use lib.ListN.{length, take, drop}
 use Rattle.sums.specs.Choice.{choose}
 use Rattle.network.specs.Pairs.{Pair}
 use Rattle.network.specs.Run.{sumAt, add, Progress, spend}
-use Rattle.joins.specs.Walk.{State, attempt, step, walk}
+use Rattle.joins.specs.Walk.{State, attempt, step, walk, ended}
 
 pub walk-append : (ps qs : List Pair) (s : State) → walk (ps ++ qs) s ≡ walk qs (walk ps s)
 unfolding walk
@@ -29,6 +29,17 @@ pub walk-spent : (ps : List Pair) (A : List ℕ) → walk ps (record { skip = 0;
 unfolding walk step
 walk-spent [] A = refl
 walk-spent (p ∷ ps) A = walk-spent ps A
+
+-- either way
+pub walk-ended : (ps : List Pair) (s : State) → ended (s .over) (s .skip) (s .budget) ≡ true → walk ps s ≡ s
+unfolding ended
+walk-ended ps s h = by (s .over) (s .skip) (s .budget) h
+  where
+    by : (o : Bool) (k b : ℕ) → ended o k b ≡ true → walk ps (record { skip = k; budget = b; over = o; area = s .area }) ≡ record { skip = k; budget = b; over = o; area = s .area }
+    by true k b e = walk-over ps k b (s .area)
+    by false (suc k) b e = absurd (true≢false (sym e))
+    by false zero (suc b) e = absurd (true≢false (sym e))
+    by false zero zero e = walk-spent ps (s .area)
 
 -- pairs that are all to be skipped are passed over by their number
 pub walk-past : (ps : List Pair) (k b : ℕ) (A : List ℕ) → length ps ≤ k → walk ps (record { skip = k; budget = b; over = false; area = A }) ≡ record { skip = k - length ps; budget = b; over = false; area = A }
@@ -74,3 +85,8 @@ walk-spend (p ∷ ps) zero (suc b) done A = by (ltb (sumAt A p) (2 ^ 64)) (walk-
     by false h =
         walk-over ps 0 (suc b) A
         ∙ (let e : 0 ≡ 0 - suc (length ps) = omega arith in let f : suc b ≡ suc b + done - done = omega arith in λ i. record { skip = e i; budget = f i; over = true; area = A })
+
+-- without a budget pairs are only skipped
+pub walk-none : (ps : List Pair) (k : ℕ) (A : List ℕ) → walk ps (record { skip = k; budget = 0; over = false; area = A }) ≡ record { skip = k - length ps; budget = 0; over = false; area = A }
+unfolding spend
+walk-none ps k A = walk-spend ps k 0 0 A

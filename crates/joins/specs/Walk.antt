@@ -1,5 +1,5 @@
 -- A walk over pairs: some are skipped, then as many are added as the budget has; a pair that would make its cell reach 2^64 ends the walk.
-use Prim.Native.Nat.{ℕ, zero, suc, _^_}
+use Prim.Native.Nat.{ℕ, zero, suc, _+_, _^_}
 use mathlib.Core.Bool.{Bool, true, false}
 use mathlib.Core.List.{List, [], _∷_}
 use lib.Dec.{ltb}
@@ -30,3 +30,15 @@ step false zero (suc budget) p area = attempt (ltb (sumAt area p) (2 ^ 64)) budg
 unfoldable pub walk : List Pair → State → State
 walk [] s = s
 walk (p ∷ ps) s = walk ps (step (s .over) (s .skip) (s .budget) p (s .area))
+
+-- a walk that no pair changes any more: one has ended it, or none is left to skip and the budget is spent
+unfoldable pub ended : Bool → ℕ → ℕ → Bool
+ended true skip budget = true
+ended false (suc skip) budget = false
+ended false zero (suc budget) = false
+ended false zero zero = true
+
+-- the turn of a loop of n after the i-th; past the last where the walk has ended
+unfoldable pub nextTurn : Bool → ℕ → ℕ → ℕ
+nextTurn true i n = n
+nextTurn false i n = i + 1

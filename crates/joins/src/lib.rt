@@ -4,9 +4,10 @@ mod walks;
 
 use cellsums::Part;
 ghost use mathlib.Core.Path.{_≡_};
+ghost use Prim.Native.Nat.{_<_};
 ghost use lib.ListN.{length};
 ghost use Rattle.network.specs.Pairs.{ownPairs};
-ghost use Rattle.joins.specs.Walk.{state, walk};
+ghost use Rattle.joins.specs.Walk.{state, walk, ended, nextTurn};
 ghost use Rattle.joins.specs.Join.{JoinOf};
 
 // The cells of the two children and the join's own.
@@ -37,6 +38,23 @@ pub struct Used {
     pub loops: usize,
     pub rows: usize,
     pub count: usize,
+}
+
+// A loop's turn after the i-th of n: a walk that has ended leaves the loop. The quota comes field by field, to stay in registers.
+pub fn next(i: usize, n: usize, over: bool, skip: usize, budget: usize) -> usize
+    requires { ⌜ i < n ⌝ }
+    ensures { λ r. ⌜ r ≡ nextTurn (ended over skip budget) i n ⌝ }
+{
+    if over {
+        return n;
+    }
+    if 0 < skip {
+        return i + 1;
+    }
+    if 0 < budget {
+        return i + 1;
+    }
+    n
 }
 
 // The pairs of one join of a network, from its windows, the strides of the children and the join, and where their cells lie.

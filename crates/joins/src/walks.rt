@@ -2,6 +2,7 @@
 use crate::Join;
 use crate::Loop;
 use crate::Quota;
+use crate::next;
 use arith::Fits;
 use cellsums::Part;
 ghost use mathlib.Core.Path.{_≡_};
@@ -84,7 +85,7 @@ fn walk_rows(
     let mut j: usize = 0;
     while j < n {
         e = walk_rows(area, join, &rows[3..], l + j * a, r + (n - 1 - j) * b, t, e);
-        j += 1;
+        j = next(j, n, e.over, e.skip, e.budget);
     }
     e
 }
@@ -250,7 +251,7 @@ fn walk_last(
             times(count, p, len, i + 1),
             e,
         );
-        i += 1;
+        i = next(i, n, e.over, e.skip, e.budget);
     }
     set_at(rows, p, old);
     e
@@ -313,7 +314,7 @@ pub fn walk_loops(
             times(count, p, len, i + 1),
             e,
         );
-        i += 1;
+        i = next(i, n, e.over, e.skip, e.budget);
     }
     set_at(rows, p, old);
     e

@@ -1,14 +1,14 @@
 -- A join's entries in the table hold what the walk over its pairs asks for: the strides, and where the cells of the children and its own lie.
-use Prim.Native.Nat.{ℕ, suc, _+_, _-_, _≤_, _<_, _^_}
-use mathlib.Core.Path.{_≡_, refl, sym, ap, subst, _∙_}
-use mathlib.Core.List.{List, [], _∷_, _++_}
+use Prim.Native.Nat.{ℕ, _+_, _-_, _≤_}
+use mathlib.Core.Path.{_≡_, sym, ap, subst, _∙_}
+use mathlib.Core.List.{List, _++_}
 use native.Mathlib.Nat.{sub-zero}
 use native.Mathlib.Omega.{arith}
 use lib.ListN.{length, getD, take, replicate, length-append, length-replicate}
 use lib.Seq.{take-append-seam}
 use Rattle.network.specs.Centre.{Route}
 use Rattle.network.specs.Coverage.{Tree, join}
-use Rattle.network.specs.Cells.{Span, cells, strides, spansAt, allCells, base}
+use Rattle.network.specs.Cells.{strides, spansAt, allCells, base}
 use Rattle.network.specs.Pairs.{ownPairs}
 use Rattle.network.proofs.NodeLaws.{spans-length}
 use Rattle.network.proofs.AreaLaws.{base-is, base-join}
@@ -19,12 +19,8 @@ use Rattle.plan.specs.declared.Node.{Node}
 use Rattle.joins.specs.Join.{JoinOf}
 use Rattle.joins.specs.Walk.{State, walk}
 use Rattle.joins.specs.declared.Join.{Join}
+use Rattle.joins.proofs.JoinLaws.{length-strides}
 use Rattle.spends.specs.Joins.{JoinIn, joinPairs}
-
-length-strides : (ss : List Span) → length (strides ss) ≡ length ss
-unfolding strides
-length-strides [] = refl
-length-strides (s ∷ ss) = ap suc (length-strides ss)
 
 -- an entry's strides, and its cells
 module _ (routes : List Route) (windows : List ℕ) (x : Node) (t : Tree) (start : ℕ) (is : x ≡ entry routes windows t start) where

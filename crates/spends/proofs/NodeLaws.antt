@@ -15,7 +15,7 @@ use Rattle.plan.specs.declared.Chains.{Chains}
 use Rattle.plan.specs.declared.Node.{Node}
 use Rattle.joins.specs.Walk.{State, state, walk}
 use Rattle.joins.specs.declared.Quota.{Quota}
-use Rattle.joins.proofs.WalkLaws.{walk-over, walk-past, walk-spent}
+use Rattle.joins.proofs.WalkLaws.{walk-over, walk-past, walk-none}
 use Rattle.spends.specs.Joins.{JoinIn, NodeIn, joinPairs, nodePairs}
 
 leaf-centre : (own : Node) (routes : List Route) (windows : List ℕ) (c start : ℕ) → own ≡ entry routes windows (leaf c) start → own .centre ≡ c
@@ -56,11 +56,10 @@ module _ {ch : Chains} {left right own : Node} {n : ℕ} where
   node-walked s e (NodeIn.alone routes windows c start d h) z f = absurd (omega (arith, leaf-centre own routes windows c start d))
   node-walked s e (NodeIn.joined j) z f = f j
 
--- a walk that is over, and one whose budget is spent
+-- ---- walks that add nothing: one that is over, and one without a budget
+
 pub quota-over : (ps : List Pair) (q : Quota) (A : List ℕ) → q .over ≡ true → state q A ≡ walk ps (state q A)
 quota-over ps q A o = sym (ap (λ b. walk ps (record { skip = q .skip; budget = q .budget; over = b; area = A })) o ∙ walk-over ps (q .skip) (q .budget) A ∙ ap (λ b. record { skip = q .skip; budget = q .budget; over = b; area = A }) (sym o))
 
-pub quota-spent : (ps : List Pair) (q : Quota) (A : List ℕ) → q .over ≡ false → q .skip ≡ 0 → q .budget ≡ 0 → state q A ≡ walk ps (state q A)
-quota-spent ps q A o k b =
-    let e : state q A ≡ record { skip = 0; budget = 0; over = false; area = A } = λ i. record { skip = k i; budget = b i; over = o i; area = A } in
-    e ∙ sym (walk-spent ps A) ∙ ap (walk ps) (sym e)
+pub quota-none : (ps : List Pair) (q : Quota) (A : List ℕ) (n k : ℕ) → length ps ≡ n → q .over ≡ false → q .budget ≡ 0 → k ≡ q .skip - n → state (record { skip = k; budget = 0; over = false }) A ≡ walk ps (state q A)
+quota-none ps q A n k counted o z e = sym (rw (o, z) (walk-none ps (q .skip) A ∙ rw (counted, ← e)))

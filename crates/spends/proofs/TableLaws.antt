@@ -2,11 +2,12 @@
 -- cells lie in the area. So after i nodes the walk has gone over the pairs of the first i.
 use Prim.Native.Nat.{ℕ, zero, suc, _+_, _-_, _≤_, _<_}
 use mathlib.Core.Path.{_≡_, refl, sym, ap, subst, _∙_}
+use mathlib.Core.Bool.{Bool, true, false}
 use mathlib.Core.List.{List, [], _∷_, _++_, map, flatMap, append-nil, Memᴰ·append-left, List·Permᴰ, List·Memᴰ, List·Memᴰ·head, List·Memᴰ·append-cases, List·Memᴰ·eq-of-singleton}
 use mathlib.Core.Logic.{_⊎_, inl, inr}
 use native.Mathlib.Omega.{arith}
 use native.Mathlib.Numerals.{add-one}
-use lib.ListN.{length, getD, take, length-map}
+use lib.ListN.{length, getD, take, drop, length-map, take-append-drop}
 use lib.Seq.{length-take-le, getD-take, take-suc, take-all}
 use Rattle.sums.specs.Lists.{from}
 use Rattle.sums.proofs.ListLaws.{getD-map-in, getD-in, flat-append, from-out}
@@ -16,6 +17,7 @@ use Rattle.network.specs.Coverage.{Tree, leaf, join, under}
 use Rattle.network.specs.Cells.{allCells}
 use Rattle.network.specs.Pairs.{Pair}
 use Rattle.network.proofs.CoverageLaws.{Parted}
+use Rattle.network.proofs.CountLaws.{length-listed}
 use Rattle.network.proofs.PostorderLaws.{nodesIn, nodes-some, postorder, length-postorder, pairsOf, listed-postorder, parted-in, children}
 use Rattle.network.proofs.AreaLaws.{base-join, base-room}
 use Rattle.modelfile.specs.Network.{treeOf}
@@ -30,9 +32,9 @@ use Rattle.plan.specs.declared.Node.{Node}
 use Rattle.plan.specs.declared.Table.{Table}
 use Rattle.plan.proofs.EntriesLaws.{entryOf, entries-postorder}
 use Rattle.plan.proofs.RowLaws.{length-row}
-use Rattle.joins.specs.Walk.{state, walk}
+use Rattle.joins.specs.Walk.{state, walk, ended, nextTurn}
 use Rattle.joins.specs.declared.Quota.{Quota}
-use Rattle.joins.proofs.WalkLaws.{walk-append}
+use Rattle.joins.proofs.WalkLaws.{walk-append, walk-ended}
 use Rattle.spends.specs.Joins.{NodeIn, nodePairs}
 
 -- a node's cells lie in the tree's
@@ -169,13 +171,23 @@ module _ {m : Model} {windows : List ℕ} {t : Table} (p : Prepared m windows t)
         ∙ flat-append g (take i (nodesOf m windows)) (getD (nodesOf m windows) i nowhere ∷ [])
         ∙ ap (λ l. pairsTo m windows i ++ l) (append-nil (g (getD (nodesOf m windows) i nowhere)))
 
+  -- those of the first i, and the others
+  pairs-rest : (i : ℕ) → pairsTo m windows (t .count) ≡ pairsTo m windows i ++ flatMap (pairsOf (routesIn m) (windowsIn m windows)) (drop i (nodesOf m windows))
+  pairs-rest i =
+      let g : Tree × ℕ → List Pair = pairsOf (routesIn m) (windowsIn m windows) in
+      ap (flatMap g) (take-all (t .count) (nodesOf m windows) (omega (arith, length-nodes)) ∙ sym (take-append-drop i (nodesOf m windows)))
+      ∙ flat-append g (take i (nodesOf m windows)) (drop i (nodesOf m windows))
+
+  pub pairs-counted : length (pairsListed m (windowsIn m windows)) ≡ t .pairs
+  pairs-counted = length-listed (routesIn m) (windowsIn m windows) (treeOf m) [] parted-all 0 ∙ sym (p .tabled .pairs-are)
+
   -- all nodes give all pairs
   pairs-all : (i : ℕ) → t .count ≤ i → pairsTo m windows i ≡ pairsListed m (windowsIn m windows)
   pairs-all i h =
       ap (flatMap (pairsOf (routesIn m) (windowsIn m windows))) (take-all i (nodesOf m windows) (omega (arith, length-nodes)))
       ∙ sym (listed-postorder (routesIn m) (windowsIn m windows) (treeOf m) 0)
 
--- ---- after i nodes
+-- ---- after i nodes, or after all where the walk has ended: the others would not change it
 
 -- of whichever model they are the table and the chains
 pub record Walked (t : Table) (ch : Chains) (q : Quota) (old : List ℕ) (e : Quota) (area : List ℕ) (i : ℕ) : Type 0 where
@@ -204,6 +216,24 @@ module _ {t : Table} {ch : Chains} {q : Quota} {old : List ℕ} {e : Quota} {are
         ∙ sym (walk-append (pairsTo m windows i) (pairsOf (routesIn m) (windowsIn m windows) x) (state q old))
         ∙ ap (λ ps. walk ps (state q old)) (sym (pairs-more p i h));
   }
+
+  -- on to the next one
+  pub walked-next : (j k : ℕ) → i ≡ j + 1 → j < t .count → k ≡ nextTurn (ended (e .over) (e .skip) (e .budget)) j (t .count) → Walked t ch q old e area k
+  unfolding nextTurn
+  walked-next j k a h d = by (ended (e .over) (e .skip) (e .budget)) refl d
+    where
+      by : (b : Bool) → ended (e .over) (e .skip) (e .budget) ≡ b → k ≡ nextTurn b j (t .count) → Walked t ch q old e area k
+      by true end d = record {
+        low = omega arith;
+        long = w .long;
+        is = λ m windows p c room.
+            let others : List Pair = flatMap (pairsOf (routesIn m) (windowsIn m windows)) (drop i (nodesOf m windows)) in
+            sym (walk-ended others (state e area) end)
+            ∙ ap (walk others) (w .is m windows p c room)
+            ∙ sym (walk-append (pairsTo m windows i) others (state q old))
+            ∙ ap (λ ps. walk ps (state q old)) (sym (pairs-rest p i) ∙ ap (pairsTo m windows) (sym d));
+      }
+      by false end d = rw (d ∙ sym a) w
 
   pub walked-last : (m : Model) (windows : List ℕ) → Prepared m windows t → chainsOf m windows t ≡ ch → cellsIn m (windowsIn m windows) ≤ length old → t .count ≤ i → state e area ≡ walk (pairsListed m (windowsIn m windows)) (state q old)
   walked-last m windows p c room h = w .is m windows p c room ∙ ap (λ ps. walk ps (state q old)) (pairs-all p i h)

@@ -50,7 +50,7 @@ fn join_pairs(ch: Chains, left: Node, right: Node, own: Node, area: &mut [u64], 
     )
 }
 
-// A leaf has no pairs; a join whose pairs are all done is passed over by their number, and one that comes after the budget's end is left.
+// A leaf has no pairs; a join whose pairs are all done is passed over by their number.
 fn node_pairs(ch: Chains, left: Node, right: Node, own: Node, area: &mut [u64], q: Quota) -> Quota
     requires { ⌜ NodeIn ch left right own (length (now area)) ⌝ }
     ensures { λ e. ⌜ ((x : NodeIn ch left right own (length (now (area .entry)))) → state e (now (area .exit)) ≡ walk (nodePairs x) (state q (now (area .entry)))) ⌝ }
@@ -69,11 +69,6 @@ fn node_pairs(ch: Chains, left: Node, right: Node, own: Node, area: &mut [u64], 
             over: false,
         };
     }
-    if q.skip == 0 {
-        if q.budget == 0 {
-            return q;
-        }
-    }
     join_pairs(ch, left, right, own, area, q)
 }
 
@@ -84,8 +79,8 @@ fn back(i: usize, n: usize) -> usize
     if n <= i { i - n } else { 0 }
 }
 
-// The pairs of all joins, in order.
-pub fn spend(m: Model, windows: [usize; 8], t: Table, area: &mut [u64], q: Quota) -> Quota
+// The pairs of the table's joins, in order, until the walk ends.
+fn table_pairs(m: Model, windows: [usize; 8], t: Table, area: &mut [u64], q: Quota) -> Quota
     requires { ⌜ Prepared m windows t ⌝ }
     requires { ⌜ cellsIn m (windowsIn m windows) ≤ length (now area) ⌝ }
     ensures { λ e. ⌜ state e (now (area .exit)) ≡ walk (pairsListed m (windowsIn m windows)) (state q (now (area .entry))) ⌝ }
@@ -104,7 +99,26 @@ pub fn spend(m: Model, windows: [usize; 8], t: Table, area: &mut [u64], q: Quota
         let left = t.nodes[l];
         let own = t.nodes[i];
         e = node_pairs(ch, left, right, own, area, e);
-        i += 1;
+        i = joins::next(i, t.count, e.over, e.skip, e.budget);
     }
     e
+}
+
+// The pairs of all joins, in order. Without a budget they are only skipped, all at once.
+pub fn spend(m: Model, windows: [usize; 8], t: Table, area: &mut [u64], q: Quota) -> Quota
+    requires { ⌜ Prepared m windows t ⌝ }
+    requires { ⌜ cellsIn m (windowsIn m windows) ≤ length (now area) ⌝ }
+    ensures { λ e. ⌜ state e (now (area .exit)) ≡ walk (pairsListed m (windowsIn m windows)) (state q (now (area .entry))) ⌝ }
+{
+    if q.over {
+        return q;
+    }
+    if q.budget == 0 {
+        return Quota {
+            skip: back(q.skip, t.pairs as usize),
+            budget: 0,
+            over: false,
+        };
+    }
+    table_pairs(m, windows, t, area, q)
 }

@@ -1,81 +1,27 @@
--- `spend` meets its contract: after i nodes the walk has gone over the pairs of the first i.
-use Prim.Native.Nat.{_-_}
-use mathlib.Core.Path.{refl, _∙_}
-use native.Mathlib.Omega.{arith}
+-- `spend` meets its contract: without a budget the pairs need only be counted, and the table has their number.
 use borrow.Author.Needs.{needs}
-use Rattle.spends.proofs.TableLaws.{Walked, walked-first, walked-turn, walked-last, count-few, node-in}
+use Rattle.spends.proofs.NodeLaws.{quota-over, quota-none}
+use Rattle.spends.proofs.TableLaws.{pairs-counted}
 use Rattle.spends.proofs.spend.Statement.{statement}
 use Rattle.spends.proofs.spend.Tie as tie
 
-abbrev Inv-loop : tie.InvT-loop
-Inv-loop area₀ t ch e₀ i₀ area e i = Walked t ch e₀ area₀ e area i
+returns : tie.Need-returns
+returns c = quota-over _ _ _ (c .if1 .taken)
 
-abbrev μ-loop : tie.MeasureT-loop
-μ-loop area₀ t ch e₀ i₀ area e i = t .count - i
-
-loop-holds : tie.Need-loop-holds Inv-loop μ-loop
-loop-holds c = walked-first _ _ _ _
-
-back-requires : tie.Need-back-requires Inv-loop μ-loop
+back-requires : tie.Need-back-requires
 back-requires c κs = search needs
 
-mul-right : tie.Need-mul-right Inv-loop μ-loop
-mul-right c = omega (arith, c .back .ensures, c .before .loop-test .taken, count-few (c .before .before .before .before .before .pre .0))
+returns-2 : tie.Need-returns-2
+returns-2 c = quota-none _ _ _ _ _ (pairs-counted (c .before .before .before .before .before .pre .0)) (c .before .before .before .if1 .left) (c .before .if2 .taken) (c .back .ensures)
 
-element-copy-out-right : tie.Need-element-copy-out-right Inv-loop μ-loop
-element-copy-out-right c = omega (arith, c .back .ensures, c .before .loop-test .taken, count-few (c .before .before .before .before .before .pre .0))
+table-pairs-requires : tie.Need-table-pairs-requires
+table-pairs-requires c κs = search needs
 
-back-requires-2 : tie.Need-back-requires-2 Inv-loop μ-loop
-back-requires-2 c κs = search needs
+same-length : tie.Need-same-length
+same-length c = search needs
 
-mul-left : tie.Need-mul-left Inv-loop μ-loop
-mul-left c = omega (arith, c .back2 .ensures, c .before .before .back .ensures, c .before .before .before .loop-test .taken, count-few (c .before .before .before .before .before .before .before .pre .0))
-
-element-copy-out-left : tie.Need-element-copy-out-left Inv-loop μ-loop
-element-copy-out-left c = omega (arith, c .back2 .ensures, c .before .before .back .ensures, c .before .before .before .loop-test .taken, count-few (c .before .before .before .before .before .before .before .pre .0))
-
-mul-own : tie.Need-mul-own Inv-loop μ-loop
-mul-own c = omega (arith, c .before .before .before .before .loop-test .taken, count-few (c .before .before .before .before .before .before .before .before .pre .0))
-
-element-copy-out-own : tie.Need-element-copy-out-own Inv-loop μ-loop
-element-copy-out-own c = omega (arith, c .before .before .before .before .loop-test .taken, count-few (c .before .before .before .before .before .before .before .before .pre .0))
-
-node-pairs-requires : tie.Need-node-pairs-requires Inv-loop μ-loop
-node-pairs-requires c κs = node-in (c .before .before .before .before .before .before .before .before .before .before .pre .0) _ (c .before .before .before .before .before .before .loop-test .taken) _ _ (c .before .before .before .before .before .back .ensures) (c .before .before .before .back2 .ensures) _ _ (c .before .before .before .before .before .before .before .loop .inv .long) (c .before .before .before .before .before .before .before .before .before .before .pre .1) .0
-
-add-i : tie.Need-add-i Inv-loop μ-loop
-add-i c = omega (arith, c .before .before .before .before .before .before .before .before .before .loop-test .taken, count-few (c .before .before .before .before .before .before .before .before .before .before .before .before .before .pre .0))
-
-loop-less : tie.Need-loop-less Inv-loop μ-loop
-loop-less c = omega (arith, c .before .before .before .before .before .before .before .before .before .loop-test .taken)
-
-loop-again : tie.Need-loop-again Inv-loop μ-loop
-loop-again c = walked-turn (c .before .before .before .before .before .before .before .before .before .before .loop .inv) (c .before .before .before .before .before .before .before .before .before .loop-test .taken) _ _ (c .before .before .before .before .before .before .before .before .back .ensures) (c .before .before .before .before .before .before .back2 .ensures) _ _ (search needs) (c .before .before .node-pairs .ensures)
-
-same-length : tie.Need-same-length Inv-loop μ-loop
-same-length c = c .before .loop .inv .long
-
-returns : tie.Need-returns Inv-loop μ-loop
-returns c = walked-last (c .before .loop .inv) _ _ (c .before .before .before .before .pre .0) refl (c .before .before .before .before .pre .1) (c .loop-test .left)
+returns-3 : tie.Need-returns-3
+returns-3 c = search needs
 
 pub spend-spec : {M : Type 1} → statement M
-spend-spec =
-    tie.close
-    (tie.spec
-    Inv-loop
-    μ-loop
-    loop-holds
-    back-requires
-    mul-right
-    element-copy-out-right
-    back-requires-2
-    mul-left
-    element-copy-out-left
-    mul-own
-    element-copy-out-own
-    node-pairs-requires
-    add-i
-    loop-less
-    loop-again
-    same-length
-    returns)
+spend-spec = tie.close (tie.spec returns back-requires returns-2 table-pairs-requires same-length returns-3)

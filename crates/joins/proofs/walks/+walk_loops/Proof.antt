@@ -6,7 +6,7 @@ use native.Mathlib.Omega.{arith}
 use lib.ListN.{length, getD, set, take, drop, length-take, length-drop}
 use Rattle.joins.specs.Walk.{state}
 use Rattle.joins.specs.Loops.{Sound}
-use Rattle.joins.proofs.TurnLaws.{Walked, walk-begins}
+use Rattle.joins.proofs.TurnLaws.{Walked, walk-begins, turn-less}
 use Rattle.joins.proofs.LoopLaws.{loopTurn, loop-again, loop-ends, turn-numbers, turn-sound, write-again, write-length, restored, first-loop, last-loop, sound-as, pairs-as, dummy-sound, dummy-pairs}
 use borrow.Author.Needs.{needs}
 use borrow.Fn.Kinds.{In}
@@ -14,6 +14,7 @@ use borrow.Fn.PlainCycle.{Measures, is, falls, and}
 use Rattle.joins.proofs.walks.walk_loops.Reads as walk-loops
 use Rattle.joins.proofs.walks.walk_loops.Kinds as walk-loops-kinds
 use Rattle.joins.proofs.walks.+walk_loops.Lts-walk_loops as walk-loops-lts
+use Rattle.joins.proofs.next.Reads as next-reads
 use Rattle.joins.proofs.walks.set_at.Reads as set-at-reads
 use Rattle.joins.proofs.walks.times.Reads as times-reads
 use Rattle.joins.proofs.walks.value_at.Reads as value-at-reads
@@ -34,7 +35,7 @@ walk-loops-below t =
 
 -- what the calls ask and tell
 abbrev calls : ℕ → walk-loops-lts.Claims
-calls t = (walk-last-reads.Asked, walk-last-reads.Learnt, value-at-reads.Asked, value-at-reads.Learnt, set-at-reads.Asked, set-at-reads.Learnt, times-reads.Asked, times-reads.Learnt, walk-loops-below t, walk-loops.Post)
+calls t = (walk-last-reads.Asked, walk-last-reads.Learnt, value-at-reads.Asked, value-at-reads.Learnt, set-at-reads.Asked, set-at-reads.Learnt, times-reads.Asked, times-reads.Learnt, walk-loops-below t, walk-loops.Post, next-reads.Asked, next-reads.Learnt)
 
 abbrev walk-loops-Inv-loop : walk-loops-lts.InvT-loop
 walk-loops-Inv-loop area₀ join loops rows₀ l r t count len n p a b c old e₀ i₀ area rows e i = ((5 ≤ length loops) × (length area ≡ length area₀) × (length rows ≡ length rows₀) × (len ≡ length rows₀) × (old ≡ getD rows₀ p 0) × (n < 2 ^ 64))
@@ -140,22 +141,22 @@ walk-loops-walk-loops-requires t c κs =
       turn-sound _ _ _ _ _ _ _ _ _ _ _ _ _ (i .2) _ (c .before .before .before .before .before .before .before .before .loop-test .taken) _ _ _ (i .0 .1) (c .before .before .before .before .before .before .set-at .ensures ∙ i .3 _) (c .times .ensures ∙ rw (i .0 .3)),
     )
 
-walk-loops-add-i : (t : ℕ) → walk-loops-lts.Need-add-i (calls t) (walk-loops-at t) walk-loops.Post walk-loops-Inv-loop walk-loops-μ-loop
-walk-loops-add-i t c = omega (arith, c .before .before .before .before .before .before .before .before .before .before .before .before .before .before .loop .inv .0 .5, c .before .before .before .before .before .before .before .before .before .before .before .before .before .loop-test .taken)
+walk-loops-next-requires : (t : ℕ) → walk-loops-lts.Need-next-requires (calls t) (walk-loops-at t) walk-loops.Post walk-loops-Inv-loop walk-loops-μ-loop
+walk-loops-next-requires t c κs = c .before .before .before .before .before .before .before .before .before .before .before .before .before .loop-test .taken
 
 walk-loops-loop-less : (t : ℕ) → walk-loops-lts.Need-loop-less (calls t) (walk-loops-at t) walk-loops.Post walk-loops-Inv-loop walk-loops-μ-loop
-walk-loops-loop-less t c = search needs
+walk-loops-loop-less t c = turn-less _ _ _ _ (c .before .before .before .before .before .before .before .before .before .before .before .before .before .before .loop-test .taken) (c .next .ensures)
 
 walk-loops-loop-again : (t : ℕ) → walk-loops-lts.Need-loop-again (calls t) (walk-loops-at t) walk-loops.Post walk-loops-Inv-loop walk-loops-μ-loop
 walk-loops-loop-again t c =
-    let i = c .before .before .before .before .before .before .before .before .before .before .before .before .before .before .loop .inv in
-    let rows = c .before .before .before .before .before .before .before .before .before .before .before .before .before .before .loop .rows in
-    let rows₀ = c .before .before .before .before .before .before .before .before .before .before .before .before .before .before .before .before .before .before .before .before .before .before .before .before .before .before .before .args .rows .now in (
-      (i .0 .0, omega (arith, c .before .before .before .before .walk-loops .kept .0, i .0 .1), write-length rows rows₀ _ _ _ _ (i .0 .2) (c .before .before .before .before .before .before .before .before .before .before .before .set-at .ensures) (c .before .before .before .before .walk-loops .ensures .1), i .0 .3, i .0 .4, i .0 .5),
+    let i = c .before .before .before .before .before .before .before .before .before .before .before .before .before .before .before .loop .inv in
+    let rows = c .before .before .before .before .before .before .before .before .before .before .before .before .before .before .before .loop .rows in
+    let rows₀ = c .before .before .before .before .before .before .before .before .before .before .before .before .before .before .before .before .before .before .before .before .before .before .before .before .before .before .before .before .args .rows .now in (
+      (i .0 .0, omega (arith, c .before .before .before .before .before .walk-loops .kept .0, i .0 .1), write-length rows rows₀ _ _ _ _ (i .0 .2) (c .before .before .before .before .before .before .before .before .before .before .before .before .set-at .ensures) (c .before .before .before .before .before .walk-loops .ensures .1), i .0 .3, i .0 .4, i .0 .5),
       i .1,
       i .2,
-      write-again rows rows₀ _ _ _ (c .before .before .before .before .before .before .before .before .before .before .before .before .before .before .loop .i + 1) (i .3) (c .before .before .before .before .before .before .before .before .before .before .before .set-at .ensures) (c .before .before .before .before .walk-loops .ensures .1),
-      loop-again _ _ _ _ _ _ _ _ _ _ _ _ _ _ _ (i .4) (c .before .before .before .before .before .before .before .before .before .before .before .before .before .loop-test .taken) _ (c .before .before .before .before .before .before .before .before .before .before .before .set-at .ensures ∙ i .3 _) (c .before .before .before .before .walk-loops .ensures .0),
+      write-again rows rows₀ _ _ _ (c .before .before .before .before .before .before .before .before .before .before .before .before .before .before .before .loop .i + 1) (i .3) (c .before .before .before .before .before .before .before .before .before .before .before .before .set-at .ensures) (c .before .before .before .before .before .walk-loops .ensures .1),
+      loop-again _ _ _ _ _ _ _ _ _ _ _ _ _ _ _ _ (i .4) (c .before .before .before .before .before .before .before .before .before .before .before .before .before .before .loop-test .taken) _ (c .before .before .before .before .before .before .before .before .before .before .before .before .set-at .ensures ∙ i .3 _) (c .before .before .before .before .before .walk-loops .ensures .0) (c .next .ensures),
     )
 
 walk-loops-set-at-requires-2 : (t : ℕ) → walk-loops-lts.Need-set-at-requires-2 (calls t) (walk-loops-at t) walk-loops.Post walk-loops-Inv-loop walk-loops-μ-loop
@@ -207,7 +208,7 @@ pub +walk-loops-spec : {M : Type 1} → statement M
     (walk-loops-add-times t)
     (walk-loops-times-requires t)
     (walk-loops-walk-loops-requires t)
-    (walk-loops-add-i t)
+    (walk-loops-next-requires t)
     (walk-loops-loop-less t)
     (walk-loops-loop-again t)
     (walk-loops-set-at-requires-2 t)

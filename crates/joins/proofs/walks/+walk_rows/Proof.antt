@@ -7,13 +7,14 @@ use lib.ListN.{length, take, drop, length-take, length-drop}
 use Rattle.cellsums.proofs.PlaceLaws.{first-row, left-low, right-low}
 use Rattle.joins.specs.Walk.{state}
 use Rattle.joins.specs.Loops.{Inside}
-use Rattle.joins.proofs.TurnLaws.{Walked, walk-begins, rowTurn, row-again, row-ends, row-none, inside-none, inside-as, inside-turn}
+use Rattle.joins.proofs.TurnLaws.{Walked, walk-begins, turn-less, rowTurn, row-again, row-ends, row-none, inside-none, inside-as, inside-turn}
 use borrow.Author.Needs.{needs}
 use borrow.Fn.Kinds.{In}
 use borrow.Fn.PlainCycle.{Measures, is, falls, and}
 use Rattle.joins.proofs.walks.walk_rows.Reads as walk-rows
 use Rattle.joins.proofs.walks.walk_rows.Kinds as walk-rows-kinds
 use Rattle.joins.proofs.walks.+walk_rows.Lts-walk_rows as walk-rows-lts
+use Rattle.joins.proofs.next.Reads as next-reads
 use Rattle.joins.proofs.walks.walk_pair.Reads as walk-pair-reads
 use Rattle.joins.proofs.walks.+walk_rows.{statement}
 use Rattle.joins.proofs.walks.+walk_rows.Tie.{close}
@@ -30,7 +31,7 @@ walk-rows-below t =
 
 -- what the calls ask and tell
 abbrev calls : ℕ → walk-rows-lts.Claims
-calls t = (walk-pair-reads.Asked, walk-pair-reads.Learnt, walk-rows-below t, walk-rows.Post)
+calls t = (walk-pair-reads.Asked, walk-pair-reads.Learnt, walk-rows-below t, walk-rows.Post, next-reads.Asked, next-reads.Learnt)
 
 abbrev walk-rows-Inv-loop : walk-rows-lts.InvT-loop
 walk-rows-Inv-loop area₀ join rows l r t n a b e₀ j₀ area e j = ((3 ≤ length rows) × (n < 2 ^ 64) × (length area ≡ length area₀))
@@ -97,16 +98,16 @@ walk-rows-walk-rows-requires t c κs =
     let rows = c .before .before .before .before .before .before .before .before .before .before .args .rows .now in
     (omega (arith, i .0 .0, length-take (length rows - 3) (drop 3 rows), length-drop 3 rows, c .before .before .before .before .before .before .before .before .before .before .pre .0), inside-turn _ (i .0 .2) (i .2) _ (c .before .before .loop-test .taken))
 
-walk-rows-add-j : (t : ℕ) → walk-rows-lts.Need-add-j (calls t) (walk-rows-at t) walk-rows.Post walk-rows-Inv-loop walk-rows-μ-loop
-walk-rows-add-j t c = search needs
+walk-rows-next-requires : (t : ℕ) → walk-rows-lts.Need-next-requires (calls t) (walk-rows-at t) walk-rows.Post walk-rows-Inv-loop walk-rows-μ-loop
+walk-rows-next-requires t c κs = c .before .before .before .before .before .loop-test .taken
 
 walk-rows-loop-less : (t : ℕ) → walk-rows-lts.Need-loop-less (calls t) (walk-rows-at t) walk-rows.Post walk-rows-Inv-loop walk-rows-μ-loop
-walk-rows-loop-less t c = search needs
+walk-rows-loop-less t c = turn-less _ _ _ _ (c .before .before .before .before .before .before .loop-test .taken) (c .next .ensures)
 
 walk-rows-loop-again : (t : ℕ) → walk-rows-lts.Need-loop-again (calls t) (walk-rows-at t) walk-rows.Post walk-rows-Inv-loop walk-rows-μ-loop
 walk-rows-loop-again t c =
-    let i = c .before .before .before .before .before .before .loop .inv in
-    ((i .0 .0, i .0 .1, omega (arith, c .before .before .walk-rows .kept .0, i .0 .2)), i .1, i .2, row-again _ _ _ _ _ _ _ _ (i .3) _ (c .before .before .before .before .before .loop-test .taken) (c .before .before .walk-rows .ensures))
+    let i = c .before .before .before .before .before .before .before .loop .inv in
+    ((i .0 .0, i .0 .1, omega (arith, c .before .before .before .walk-rows .kept .0, i .0 .2)), i .1, i .2, row-again _ _ _ _ _ _ _ _ (i .3) _ _ (c .before .before .before .before .before .before .loop-test .taken) (c .before .before .before .walk-rows .ensures) (c .next .ensures))
 
 walk-rows-same-length-2 : (t : ℕ) → walk-rows-lts.Need-same-length-2 (calls t) (walk-rows-at t) walk-rows.Post walk-rows-Inv-loop walk-rows-μ-loop
 walk-rows-same-length-2 t c = omega (arith, c .before .loop .inv .0 .2)
@@ -137,7 +138,7 @@ pub +walk-rows-spec : {M : Type 1} → statement M
     (walk-rows-mul-walk-rows-2 t)
     (walk-rows-add-walk-rows-2 t)
     (walk-rows-walk-rows-requires t)
-    (walk-rows-add-j t)
+    (walk-rows-next-requires t)
     (walk-rows-loop-less t)
     (walk-rows-loop-again t)
     (walk-rows-same-length-2 t)

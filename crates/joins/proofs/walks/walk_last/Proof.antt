@@ -5,7 +5,7 @@ use mathlib.Core.List.{[]}
 use native.Mathlib.Omega.{arith}
 use lib.ListN.{length, getD, set}
 use Rattle.joins.specs.Walk.{state}
-use Rattle.joins.proofs.TurnLaws.{Walked, walk-begins}
+use Rattle.joins.proofs.TurnLaws.{Walked, walk-begins, turn-less}
 use Rattle.joins.proofs.LoopLaws.{loopTurn, loop-ends, turn-numbers, turn-sound, last-at, last-again, write-again, write-length, restored}
 use borrow.Author.Needs.{needs}
 use Rattle.joins.proofs.walks.walk_last.Statement.{statement}
@@ -61,20 +61,20 @@ walk-cell-requires c κs =
     let at = last-at _ _ _ _ _ _ _ (turn-sound _ _ _ _ _ _ _ _ _ _ _ _ _ (c .before .before .before .before .before .before .before .before .before .before .before .before .before .pre) _ (c .before .before .before .before .before .before .before .loop-test .taken) _ _ _ (i .0 .0) (c .before .before .before .before .before .set-at .ensures ∙ i .1 _) (c .times .ensures ∙ rw (i .0 .2))) in
     (at .inside, at .counted)
 
-add-i : tie.Need-add-i Inv-loop μ-loop
-add-i c = omega (arith, c .before .before .before .before .before .before .before .before .before .before .before .loop .inv .0 .4, c .before .before .before .before .before .before .before .before .before .before .loop-test .taken)
+next-requires : tie.Need-next-requires Inv-loop μ-loop
+next-requires c κs = c .before .before .before .before .before .before .before .before .before .before .loop-test .taken
 
 loop-less : tie.Need-loop-less Inv-loop μ-loop
-loop-less c = search needs
+loop-less c = turn-less _ _ _ _ (c .before .before .before .before .before .before .before .before .before .before .before .loop-test .taken) (c .next .ensures)
 
 loop-again : tie.Need-loop-again Inv-loop μ-loop
 loop-again c =
-    let i = c .before .before .before .before .before .before .before .before .before .before .before .loop .inv in
-    let rows = c .before .before .before .before .before .before .before .before .before .before .before .loop .rows in
-    let rows₀ = c .before .before .before .before .before .before .before .before .before .before .before .before .before .before .before .before .args .rows .now in (
-      (omega (arith, c .before .before .walk-cell .kept .0, i .0 .0), write-length rows rows₀ _ _ _ _ (i .0 .1) (c .before .before .before .before .before .before .before .before .set-at .ensures) refl, i .0 .2, i .0 .3, i .0 .4),
-      write-again rows rows₀ _ _ _ (c .before .before .before .before .before .before .before .before .before .before .before .loop .i + 1) (i .1) (c .before .before .before .before .before .before .before .before .set-at .ensures) refl,
-      last-again _ _ _ _ _ _ _ _ _ _ _ _ _ _ (i .2) (c .before .before .before .before .before .before .before .before .before .before .loop-test .taken) _ (c .before .before .before .before .before .before .before .before .set-at .ensures ∙ i .1 _) (c .before .before .walk-cell .ensures),
+    let i = c .before .before .before .before .before .before .before .before .before .before .before .before .loop .inv in
+    let rows = c .before .before .before .before .before .before .before .before .before .before .before .before .loop .rows in
+    let rows₀ = c .before .before .before .before .before .before .before .before .before .before .before .before .before .before .before .before .before .args .rows .now in (
+      (omega (arith, c .before .before .before .walk-cell .kept .0, i .0 .0), write-length rows rows₀ _ _ _ _ (i .0 .1) (c .before .before .before .before .before .before .before .before .before .set-at .ensures) refl, i .0 .2, i .0 .3, i .0 .4),
+      write-again rows rows₀ _ _ _ (c .before .before .before .before .before .before .before .before .before .before .before .before .loop .i + 1) (i .1) (c .before .before .before .before .before .before .before .before .before .set-at .ensures) refl,
+      last-again _ _ _ _ _ _ _ _ _ _ _ _ _ _ _ (i .2) (c .before .before .before .before .before .before .before .before .before .before .before .loop-test .taken) _ (c .before .before .before .before .before .before .before .before .before .set-at .ensures ∙ i .1 _) (c .before .before .before .walk-cell .ensures) (c .next .ensures),
     )
 
 set-at-requires-2 : tie.Need-set-at-requires-2 Inv-loop μ-loop
@@ -110,7 +110,7 @@ walk-last-spec =
     add-times
     times-requires
     walk-cell-requires
-    add-i
+    next-requires
     loop-less
     loop-again
     set-at-requires-2
