@@ -1,6 +1,6 @@
 -- A whole leaf: filling from the first chain present on writes the weights, since the chains present have all the cells.
-use Prim.Native.Nat.{ℕ, _+_, _^_, _≤_, _<_, zero-le}
-use mathlib.Core.Path.{_≡_, sym, ap, subst, _∙_}
+use Prim.Native.Nat.{ℕ, _+_, _^_, zero-le}
+use mathlib.Core.Path.{_≡_, sym, ap, _∙_}
 use mathlib.Core.Bool.{false}
 use mathlib.Core.List.{List, [], _∷_, map, _++_}
 use native.Mathlib.Omega.{arith}
@@ -12,7 +12,7 @@ use Rattle.sums.proofs.ListLaws.{map-cong}
 use Rattle.network.specs.Weight.{weight, multinomial, powers}
 use Rattle.weights.specs.Leaf.{between, LeafEnds}
 use Rattle.weights.specs.Parts.{weightAfter, cellsFrom, ToFill}
-use Rattle.weights.specs.Present.{present, Taken}
+use Rattle.weights.specs.Present.{Taken, Kept}
 use Rattle.weights.proofs.WeightLaws.{weight-whole}
 use Rattle.weights.proofs.BetweenLaws.{top-low}
 use Rattle.weights.proofs.FillLaws.{cells-length}
@@ -29,35 +29,34 @@ leaf-cells loads lows highs = map-cong (between lows highs) _ _ (λ ns m. weight
 pub taken-count : {highs xs : List ℕ} {n : ℕ} {kept : List ℕ} → Taken highs xs n kept → n ≡ length (take n kept)
 taken-count {n = n} {kept} t = sym (length-take-le n kept (omega (arith, t .room, t .few)))
 
--- the first n of p, a and b are the loads and ends of the chains present
-module _ {loads lows highs : List ℕ} (ends : LeafEnds loads lows highs) {n : ℕ} {p a b : List ℕ} (tp : Taken highs loads n p) (ta : Taken highs lows n a) (tb : Taken highs highs n b) where
-  taken-ends : LeafEnds (take n p) (take n a) (take n b)
-  taken-ends = rw (tp .list, ta .list, tb .list) (present-ends ends)
+module _ {loads lows highs : List ℕ} (ends : LeafEnds loads lows highs) {n : ℕ} {p a b : List ℕ} (kept : Kept loads lows highs n p a b) where
+  kept-ends : LeafEnds (take n p) (take n a) (take n b)
+  kept-ends = rw (kept .loads-taken .list, kept .lows-taken .list, kept .highs-taken .list) (present-ends ends)
 
-  taken-cells : cellsFrom 1 0 (take n p) (take n a) (take n b) ≡ cellsFrom 1 0 loads lows highs
-  taken-cells = (λ t. cellsFrom 1 0 (tp .list t) (ta .list t) (tb .list t)) ∙ present-cells 1 0 loads lows highs (ends .lows-length) (ends .highs-length) (ends .ordered)
+  kept-cells : cellsFrom 1 0 (take n p) (take n a) (take n b) ≡ cellsFrom 1 0 loads lows highs
+  kept-cells = (λ t. cellsFrom 1 0 (kept .loads-taken .list t) (kept .lows-taken .list t) (kept .highs-taken .list t)) ∙ present-cells 1 0 loads lows highs (ends .lows-length) (ends .highs-length) (ends .ordered)
 
-  taken-between : length (between (take n a) (take n b)) ≡ length (between lows highs)
-  taken-between = sym (cells-length 1 0 (take n p) (take n a) (take n b)) ∙ ap length taken-cells ∙ cells-length 1 0 loads lows highs
+  kept-between : length (between (take n a) (take n b)) ≡ length (between lows highs)
+  kept-between = sym (cells-length 1 0 (take n p) (take n a) (take n b)) ∙ ap length kept-cells ∙ cells-length 1 0 loads lows highs
 
-  taken-weights : map (weight (take n p)) (between (take n a) (take n b)) ≡ map (weight loads) (between lows highs)
-  taken-weights = sym (leaf-cells (take n p) (take n a) (take n b)) ∙ taken-cells ∙ leaf-cells loads lows highs
+  kept-weights : map (weight (take n p)) (between (take n a) (take n b)) ≡ map (weight loads) (between lows highs)
+  kept-weights = sym (leaf-cells (take n p) (take n a) (take n b)) ∙ kept-cells ∙ leaf-cells loads lows highs
 
-  pub taken-to-fill : (room : ℕ) → room ≡ length (between lows highs) → some (λ n. leb (2 ^ 64) n) (map (weight loads) (between lows highs)) ≡ false → ToFill (take n p) (take n a) (take n b) 0 1 0 0 room
-  taken-to-fill room e none = leaf-to-fill taken-ends room (e ∙ sym taken-between) (ap (some (λ n. leb (2 ^ 64) n)) taken-weights ∙ none)
+  pub kept-to-fill : (room : ℕ) → room ≡ length (between lows highs) → some (λ n. leb (2 ^ 64) n) (map (weight loads) (between lows highs)) ≡ false → ToFill (take n p) (take n a) (take n b) 0 1 0 0 room
+  kept-to-fill room e none = leaf-to-fill kept-ends room (e ∙ sym kept-between) (ap (some (λ n. leb (2 ^ 64) n)) kept-weights ∙ none)
 
-  pub taken-filled : (old out : List ℕ) (r : ℕ) → length out ≡ length (between lows highs) → r ≡ 0 + length (between (take n a) (take n b)) → take r out ≡ take 0 old ++ cellsFrom 1 0 (take n p) (take n a) (take n b) → out ≡ map (weight loads) (between lows highs)
-  taken-filled old out r s e l = sym (take-all r out (omega (arith, taken-between))) ∙ l ∙ leaf-cells (take n p) (take n a) (take n b) ∙ taken-weights
+  pub kept-filled : (old out : List ℕ) (r : ℕ) → length out ≡ length (between lows highs) → r ≡ 0 + length (between (take n a) (take n b)) → take r out ≡ take 0 old ++ cellsFrom 1 0 (take n p) (take n a) (take n b) → out ≡ map (weight loads) (between lows highs)
+  kept-filled old out r s e l = sym (take-all r out (omega (arith, kept-between))) ∙ l ∙ leaf-cells (take n p) (take n a) (take n b) ∙ kept-weights
 
   -- no chain is present
   module _ (z : n ≡ 0) where
     one-weight : map (weight loads) (between lows highs) ≡ 1 ∷ []
     unfolding cellsFrom between weightAfter multinomial powers
-    one-weight = sym (taken-cells ∙ leaf-cells loads lows highs) ∙ λ t. cellsFrom 1 0 (take (z t) p) (take (z t) a) (take (z t) b)
+    one-weight = sym (kept-cells ∙ leaf-cells loads lows highs) ∙ λ t. cellsFrom 1 0 (take (z t) p) (take (z t) a) (take (z t) b)
 
     pub one-room : length (between lows highs) ≡ 1
     unfolding between
-    one-room = sym taken-between ∙ λ t. length (between (take (z t) a) (take (z t) b))
+    one-room = sym kept-between ∙ λ t. length (between (take (z t) a) (take (z t) b))
 
     pub one-written : (old : List ℕ) → length old ≡ length (between lows highs) → set old 0 1 ≡ map (weight loads) (between lows highs)
     one-written [] e = absurd (omega (arith, one-room))

@@ -1,7 +1,7 @@
 -- The chains present at a leaf have all its cells: one that stands at 0 has one index value, and its factor is 1. The loop that keeps them:
 -- what is kept and what of the rest is present make up those present.
-use Prim.Native.Nat.{ℕ, zero, suc, _+_, _-_, _*_, _^_, _≤_, _<_, zero-le}
-use mathlib.Core.Path.{_≡_, refl, sym, ap, subst, _∙_}
+use Prim.Native.Nat.{ℕ, zero, suc, _+_, _-_, _*_, _≤_, _<_, zero-le}
+use mathlib.Core.Path.{_≡_, refl, sym, ap, _∙_}
 use mathlib.Core.List.{List, [], _∷_, _++_, flatMap, append-assoc, append-nil}
 use native.Mathlib.Nat.{le-refl, mul-one, pow-zero}
 use native.Mathlib.Numerals.{add-one}

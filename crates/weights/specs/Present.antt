@@ -21,3 +21,9 @@ pub record Taken (highs xs : List ℕ) (count : ℕ) (kept : List ℕ) : Type 0 
   pub room : length kept ≡ 8
   pub few : count ≤ 8
   pub list : take count kept ≡ present highs xs
+
+-- the loads and the ends of the chains present, `count` of each
+pub record Kept (loads lows highs : List ℕ) (count : ℕ) (keptLoads keptLows keptHighs : List ℕ) : Type 0 where
+  pub loads-taken : Taken highs loads count keptLoads
+  pub lows-taken : Taken highs lows count keptLows
+  pub highs-taken : Taken highs highs count keptHighs

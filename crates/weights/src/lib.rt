@@ -14,7 +14,7 @@ ghost use Rattle.network.specs.Centre.{visit, fits};
 ghost use Rattle.weights.specs.Ranges.{AtMost};
 ghost use Rattle.weights.specs.Leaf.{between, LeafEnds};
 ghost use Rattle.weights.specs.Parts.{cellsFrom, ToFill};
-ghost use Rattle.weights.specs.Present.{presence as presenceOf, Taken};
+ghost use Rattle.weights.specs.Present.{presence as presenceOf, Kept};
 
 fn times_power(acc: u64, load: u64, n: usize) -> Fits
     ensures { λ r. ⌜ r ≡ capped (acc * load ^ n) ⌝ }
@@ -193,28 +193,26 @@ fn presence(high: usize) -> usize
 // Each chain is written, and the next one over it where it is not present.
 fn those_present(loads: &[u64], lows: &[usize], highs: &[usize]) -> Present
     requires { ⌜ LeafEnds (now loads) (now lows) (now highs) ⌝ }
-    ensures { λ r. ⌜ Taken (now (highs .entry)) (now (loads .entry)) (r .count) (r .loads) ⌝ }
-    ensures { λ r. ⌜ Taken (now (highs .entry)) (now (lows .entry)) (r .count) (r .lows) ⌝ }
-    ensures { λ r. ⌜ Taken (now (highs .entry)) (now (highs .entry)) (r .count) (r .highs) ⌝ }
+    ensures { λ r. ⌜ Kept (now (loads .entry)) (now (lows .entry)) (now (highs .entry)) (r .count) (r .loads) (r .lows) (r .highs) ⌝ }
 {
-    let mut p = [0u64; 8];
-    let mut a = [0usize; 8];
-    let mut b = [0usize; 8];
+    let mut kept_loads = [0u64; 8];
+    let mut kept_lows = [0usize; 8];
+    let mut kept_highs = [0usize; 8];
     let mut n: usize = 0;
     let mut k: usize = 0;
     while k < loads.len() {
         let high = highs[k];
-        p[n] = loads[k];
-        a[n] = lows[k];
-        b[n] = high;
+        kept_loads[n] = loads[k];
+        kept_lows[n] = lows[k];
+        kept_highs[n] = high;
         n += presence(high);
         k += 1;
     }
     Present {
         count: n,
-        loads: p,
-        lows: a,
-        highs: b,
+        loads: kept_loads,
+        lows: kept_lows,
+        highs: kept_highs,
     }
 }
 
@@ -232,8 +230,18 @@ pub fn write_cells(rows: &[u64], loads: &[u64], lows: &[usize], highs: &[usize],
         out[0] = 1;
         return;
     }
-    let p = present.loads;
-    let a = present.lows;
-    let b = present.highs;
-    fill(rows, &p[..n], &a[..n], &b[..n], 0, 1, 0, out, 0);
+    let kept_loads = present.loads;
+    let kept_lows = present.lows;
+    let kept_highs = present.highs;
+    fill(
+        rows,
+        &kept_loads[..n],
+        &kept_lows[..n],
+        &kept_highs[..n],
+        0,
+        1,
+        0,
+        out,
+        0,
+    );
 }

@@ -1,6 +1,6 @@
 -- `fill` meets its contract, by recursion on the chains that are left, down to `fill_last`. Each turn of the loop writes the cells with one
 -- number of messages of chain k; what it asks for and leaves is in FillingLaws.
-use Prim.Native.Nat.{ℕ, _+_, _-_, _<_}
+use Prim.Native.Nat.{ℕ, _-_, _<_}
 use mathlib.Core.Path.{refl}
 use native.Mathlib.Omega.{arith}
 use lib.ListN.{length}
@@ -39,10 +39,14 @@ fill-μ-loop rows loads lows highs k acc before out₀ at load high i₀ power�
     high - i
 
 fill-add-if1 : (t : ℕ) → fill-lts.Need-add-if1 (calls t) (fill-at t) fill.Post fill-Inv-loop fill-μ-loop
-fill-add-if1 t c = omega (arith, c .before .before .before .before .before .pre .1 .1 .chain, c .before .before .before .before .before .pre .1 .1 .ends .few)
+fill-add-if1 t c =
+    let to = c .before .before .before .before .before .pre .1 .1 in
+    omega (arith, to .chain, to .ends .few)
 
 fill-fill-last-requires : (t : ℕ) → fill-lts.Need-fill-last-requires (calls t) (fill-at t) fill.Post fill-Inv-loop fill-μ-loop
-fill-fill-last-requires t c κs = ((c .before .before .before .before .before .before .before .pre .1 .0 .0, c .before .if1 .taken), c .before .before .before .before .before .before .before .pre .1 .1)
+fill-fill-last-requires t c κs =
+    let to = c .before .before .before .before .before .before .before .pre .1 .1 in
+    ((c .before .before .before .before .before .before .before .pre .1 .0 .0, c .before .if1 .taken), to)
 
 fill-same-length : (t : ℕ) → fill-lts.Need-same-length (calls t) (fill-at t) fill.Post fill-Inv-loop fill-μ-loop
 fill-same-length t c = search needs
@@ -60,55 +64,96 @@ fill-mul-high : (t : ℕ) → fill-lts.Need-mul-high (calls t) (fill-at t) fill.
 fill-mul-high t c = search needs
 
 fill-shared-slice-read-high : (t : ℕ) → fill-lts.Need-shared-slice-read-high (calls t) (fill-at t) fill.Post fill-Inv-loop fill-μ-loop
-fill-shared-slice-read-high t c = omega (arith, c .before .before .before .before .before .before .before .before .pre .1 .0 .1, c .before .before .before .before .before .before .before .before .pre .1 .1 .ends .highs-length)
+fill-shared-slice-read-high t c =
+    let to = c .before .before .before .before .before .before .before .before .pre .1 .1 in
+    omega (arith, c .before .before .before .before .before .before .before .before .pre .1 .0 .1, to .ends .highs-length)
 
 fill-mul-i : (t : ℕ) → fill-lts.Need-mul-i (calls t) (fill-at t) fill.Post fill-Inv-loop fill-μ-loop
 fill-mul-i t c = search needs
 
 fill-shared-slice-read-i : (t : ℕ) → fill-lts.Need-shared-slice-read-i (calls t) (fill-at t) fill.Post fill-Inv-loop fill-μ-loop
-fill-shared-slice-read-i t c = omega (arith, c .before .before .before .before .before .before .before .before .before .pre .1 .0 .1, c .before .before .before .before .before .before .before .before .before .pre .1 .1 .ends .lows-length)
+fill-shared-slice-read-i t c =
+    let to = c .before .before .before .before .before .before .before .before .before .pre .1 .1 in
+    omega (arith, c .before .before .before .before .before .before .before .before .before .pre .1 .0 .1, to .ends .lows-length)
 
 fill-exact-power-requires : (t : ℕ) → fill-lts.Need-exact-power-requires (calls t) (fill-at t) fill.Post fill-Inv-loop fill-μ-loop
-fill-exact-power-requires t c κs = start-low (c .before .before .before .before .before .before .before .before .before .pre .1 .1) (c .before .before .before .before .before .before .before .before .before .pre .1 .0 .1)
+fill-exact-power-requires t c κs =
+    let to = c .before .before .before .before .before .before .before .before .before .pre .1 .1 in
+    start-low to (c .before .before .before .before .before .before .before .before .before .pre .1 .0 .1)
 
 fill-loop-holds : (t : ℕ) → fill-lts.Need-loop-holds (calls t) (fill-at t) fill.Post fill-Inv-loop fill-μ-loop
-fill-loop-holds t c = filling-start (c .before .before .before .before .before .before .before .before .before .before .pre .1 .1) _ _ (c .before .before .before .before .before .before .before .before .before .before .pre .1 .0 .1) (c .exact-power .ensures)
+fill-loop-holds t c =
+    let to = c .before .before .before .before .before .before .before .before .before .before .pre .1 .1 in
+    filling-start to _ _ (c .before .before .before .before .before .before .before .before .before .before .pre .1 .0 .1) (c .exact-power .ensures)
 
 fill-add-binomial-in : (t : ℕ) → fill-lts.Need-add-binomial-in (calls t) (fill-at t) fill.Post fill-Inv-loop fill-μ-loop
-fill-add-binomial-in t c = omega (arith, sum-small (c .before .before .before .before .before .before .before .before .before .before .before .pre .1 .1) refl (c .loop .inv))
+fill-add-binomial-in t c =
+    let to = c .before .before .before .before .before .before .before .before .before .before .before .pre .1 .1 in
+    let f = c .loop .inv in
+    omega (arith, sum-small to refl f)
 
 fill-binomial-in-requires : (t : ℕ) → fill-lts.Need-binomial-in-requires (calls t) (fill-at t) fill.Post fill-Inv-loop fill-μ-loop
-fill-binomial-in-requires t c κs = (c .before .before .before .before .before .before .before .before .before .before .before .pre .1 .0 .0, (sum-small (c .before .before .before .before .before .before .before .before .before .before .before .pre .1 .1) refl (c .loop .inv), index-small (c .before .before .before .before .before .before .before .before .before .before .before .pre .1 .1) refl (c .loop .inv)))
+fill-binomial-in-requires t c κs =
+    let to = c .before .before .before .before .before .before .before .before .before .before .before .pre .1 .1 in
+    let f = c .loop .inv in
+    (c .before .before .before .before .before .before .before .before .before .before .before .pre .1 .0 .0, (sum-small to refl f, index-small to refl f))
 
 fill-add-fill : (t : ℕ) → fill-lts.Need-add-fill (calls t) (fill-at t) fill.Post fill-Inv-loop fill-μ-loop
 fill-add-fill t c = omega (arith, c .before .loop .inv .inside)
 
 fill-mul-fill : (t : ℕ) → fill-lts.Need-mul-fill (calls t) (fill-at t) fill.Post fill-Inv-loop fill-μ-loop
-fill-mul-fill t c = record { fits = product-low (c .before .before .before .before .before .before .before .before .before .before .before .before .pre .1 .1) refl (c .before .loop .inv) _ (c .binomial-in .ensures) }
+fill-mul-fill t c =
+    let to = c .before .before .before .before .before .before .before .before .before .before .before .before .pre .1 .1 in
+    let f = c .before .loop .inv in
+    let ways = c .binomial-in .ensures in
+    record { fits = product-low to refl f _ ways }
 
 fill-add-fill-2 : (t : ℕ) → fill-lts.Need-add-fill-2 (calls t) (fill-at t) fill.Post fill-Inv-loop fill-μ-loop
-fill-add-fill-2 t c = omega (arith, sum-small (c .before .before .before .before .before .before .before .before .before .before .before .before .pre .1 .1) refl (c .before .loop .inv))
+fill-add-fill-2 t c =
+    let to = c .before .before .before .before .before .before .before .before .before .before .before .before .pre .1 .1 in
+    let f = c .before .loop .inv in
+    omega (arith, sum-small to refl f)
 
 fill-fill-requires : (t : ℕ) → fill-lts.Need-fill-requires (calls t) (fill-at t) fill.Post fill-Inv-loop fill-μ-loop
-fill-fill-requires t c κs = (omega (arith, c .before .before .before .before .before .before .before .before .before .before .before .before .before .pre .0, c .before .before .loop .inv .inside), ((c .before .before .before .before .before .before .before .before .before .before .before .before .before .pre .1 .0 .0, omega (arith, c .before .before .before .before .before .before .before .if1 .left, c .before .before .loop .inv .inside)), deeper (c .before .before .before .before .before .before .before .before .before .before .before .before .before .pre .1 .1) refl (c .before .before .loop .inv) _ (c .before .binomial-in .ensures)))
+fill-fill-requires t c κs =
+    let to = c .before .before .before .before .before .before .before .before .before .before .before .before .before .pre .1 .1 in
+    let f = c .before .before .loop .inv in
+    let ways = c .before .binomial-in .ensures in
+    (omega (arith, c .before .before .before .before .before .before .before .before .before .before .before .before .before .pre .0, f .inside), ((c .before .before .before .before .before .before .before .before .before .before .before .before .before .pre .1 .0 .0, omega (arith, c .before .before .before .before .before .before .before .if1 .left, f .inside)), deeper to refl f _ ways))
 
 fill-same-length-2 : (t : ℕ) → fill-lts.Need-same-length-2 (calls t) (fill-at t) fill.Post fill-Inv-loop fill-μ-loop
 fill-same-length-2 t c = search needs
 
 fill-returns-2 : (t : ℕ) → fill-lts.Need-returns-2 (calls t) (fill-at t) fill.Post fill-Inv-loop fill-μ-loop
-fill-returns-2 t c = filled (c .before .before .before .before .before .before .before .before .before .before .before .before .before .before .before .before .before .pre .1 .1) refl (c .before .before .before .before .before .before .loop .inv) _ (c .before .before .before .before .before .binomial-in .ensures) _ (c .before .before .before .fill .last .1 .1 .1 .1 .1 .1 .1 .0) (c .before .before .before .fill .ensures .0) (c .before .before .before .fill .ensures .1) (c .if2 .taken)
+fill-returns-2 t c =
+    let to = c .before .before .before .before .before .before .before .before .before .before .before .before .before .before .before .before .before .pre .1 .1 in
+    let f = c .before .before .before .before .before .before .loop .inv in
+    let ways = c .before .before .before .before .before .binomial-in .ensures in
+    let call = c .before .before .before .fill in
+    filled to refl f _ ways _ (call .last .1 .1 .1 .1 .1 .1 .1 .0) (call .ensures .0) (call .ensures .1) (c .if2 .taken)
 
 fill-mul-power : (t : ℕ) → fill-lts.Need-mul-power (calls t) (fill-at t) fill.Post fill-Inv-loop fill-μ-loop
-fill-mul-power t c = record { fits = power-more-low (c .before .before .before .before .before .before .before .before .before .before .before .before .before .before .before .before .before .pre .1 .1) refl (c .before .before .before .before .before .before .loop .inv) (omega (arith, c .before .before .before .before .before .before .loop .inv .index)) }
+fill-mul-power t c =
+    let to = c .before .before .before .before .before .before .before .before .before .before .before .before .before .before .before .before .before .pre .1 .1 in
+    let f = c .before .before .before .before .before .before .loop .inv in
+    record { fits = power-more-low to refl f (omega (arith, f .index)) }
 
 fill-add-i : (t : ℕ) → fill-lts.Need-add-i (calls t) (fill-at t) fill.Post fill-Inv-loop fill-μ-loop
-fill-add-i t c = omega (arith, index-small (c .before .before .before .before .before .before .before .before .before .before .before .before .before .before .before .before .before .pre .1 .1) refl (c .before .before .before .before .before .before .loop .inv))
+fill-add-i t c =
+    let to = c .before .before .before .before .before .before .before .before .before .before .before .before .before .before .before .before .before .pre .1 .1 in
+    let f = c .before .before .before .before .before .before .loop .inv in
+    omega (arith, index-small to refl f)
 
 fill-loop-less : (t : ℕ) → fill-lts.Need-loop-less (calls t) (fill-at t) fill.Post fill-Inv-loop fill-μ-loop
 fill-loop-less t c = omega (arith, c .before .before .before .before .before .before .loop .inv .index)
 
 fill-loop-again : (t : ℕ) → fill-lts.Need-loop-again (calls t) (fill-at t) fill.Post fill-Inv-loop fill-μ-loop
-fill-loop-again t c = filling-more (c .before .before .before .before .before .before .before .before .before .before .before .before .before .before .before .before .before .pre .1 .1) refl (c .before .before .before .before .before .before .loop .inv) _ (c .before .before .before .before .before .binomial-in .ensures) _ (c .before .before .before .fill .last .1 .1 .1 .1 .1 .1 .1 .0) (c .before .before .before .fill .ensures .0) (c .before .before .before .fill .ensures .1) (omega (arith, c .before .before .before .before .before .before .loop .inv .index)) (omega (arith, c .before .before .before .fill .kept .1 .1 .1 .1 .1 .1 .1 .0))
+fill-loop-again t c =
+    let to = c .before .before .before .before .before .before .before .before .before .before .before .before .before .before .before .before .before .pre .1 .1 in
+    let f = c .before .before .before .before .before .before .loop .inv in
+    let ways = c .before .before .before .before .before .binomial-in .ensures in
+    let call = c .before .before .before .fill in
+    filling-more to refl f _ ways _ (call .last .1 .1 .1 .1 .1 .1 .1 .0) (call .ensures .0) (call .ensures .1) (omega (arith, f .index)) (omega (arith, call .kept .1 .1 .1 .1 .1 .1 .1 .0))
 
 pub +fill-spec : {M : Type 1} → statement M
 +fill-spec = close μ-fill λ t. fill-lts.spec (calls t)

@@ -36,43 +36,86 @@ exact-power-requires : tie.Need-exact-power-requires Inv-loop μ-loop
 exact-power-requires c κs = start-low (c .before .before .before .before .before .before .before .before .pre .1) (omega arith)
 
 loop-holds : tie.Need-loop-holds Inv-loop μ-loop
-loop-holds c = filling-start (c .before .before .before .before .before .before .before .before .before .pre .1) _ _ (omega arith) (c .exact-power .ensures)
+loop-holds c =
+    let to = c .before .before .before .before .before .before .before .before .before .pre .1 in
+    filling-start to _ _ (omega arith) (c .exact-power .ensures)
 
 add-binomial-in : tie.Need-add-binomial-in Inv-loop μ-loop
-add-binomial-in c = omega (arith, sum-small (c .before .before .before .before .before .before .before .before .before .before .pre .1) refl (c .loop .inv))
+add-binomial-in c =
+    let to = c .before .before .before .before .before .before .before .before .before .before .pre .1 in
+    let f = c .loop .inv in
+    omega (arith, sum-small to refl f)
 
 binomial-in-requires : tie.Need-binomial-in-requires Inv-loop μ-loop
-binomial-in-requires c κs = (c .before .before .before .before .before .before .before .before .before .before .pre .0 .0, (sum-small (c .before .before .before .before .before .before .before .before .before .before .pre .1) refl (c .loop .inv), index-small (c .before .before .before .before .before .before .before .before .before .before .pre .1) refl (c .loop .inv)))
+binomial-in-requires c κs =
+    let to = c .before .before .before .before .before .before .before .before .before .before .pre .1 in
+    let f = c .loop .inv in
+    (c .before .before .before .before .before .before .before .before .before .before .pre .0 .0, (sum-small to refl f, index-small to refl f))
 
 mul-out : tie.Need-mul-out Inv-loop μ-loop
-mul-out c = record { fits = product-low (c .before .before .before .before .before .before .before .before .before .before .before .pre .1) refl (c .before .loop .inv) _ (c .binomial-in .ensures) }
+mul-out c =
+    let to = c .before .before .before .before .before .before .before .before .before .before .before .pre .1 in
+    let f = c .before .loop .inv in
+    let ways = c .binomial-in .ensures in
+    record { fits = product-low to refl f _ ways }
 
 mul-out-2 : tie.Need-mul-out-2 Inv-loop μ-loop
-mul-out-2 c = omega (arith, cell-inside (c .before .before .before .before .before .before .before .before .before .before .before .pre .1) refl (c .before .loop .inv) _ (c .binomial-in .ensures) (c .before .before .before .before .before .before .before .before .before .before .before .pre .0 .1))
+mul-out-2 c =
+    let to = c .before .before .before .before .before .before .before .before .before .before .before .pre .1 in
+    let f = c .before .loop .inv in
+    let ways = c .binomial-in .ensures in
+    let last = c .before .before .before .before .before .before .before .before .before .before .before .pre .0 .1 in
+    omega (arith, cell-inside to refl f _ ways last)
 
 slice-write-out : tie.Need-slice-write-out Inv-loop μ-loop
-slice-write-out c = cell-inside (c .before .before .before .before .before .before .before .before .before .before .before .pre .1) refl (c .before .loop .inv) _ (c .binomial-in .ensures) (c .before .before .before .before .before .before .before .before .before .before .before .pre .0 .1)
+slice-write-out c =
+    let to = c .before .before .before .before .before .before .before .before .before .before .before .pre .1 in
+    let f = c .before .loop .inv in
+    let ways = c .binomial-in .ensures in
+    let last = c .before .before .before .before .before .before .before .before .before .before .before .pre .0 .1 in
+    cell-inside to refl f _ ways last
 
 add-next : tie.Need-add-next Inv-loop μ-loop
-add-next c = omega (arith, cell-inside (c .before .before .before .before .before .before .before .before .before .before .before .pre .1) refl (c .before .loop .inv) _ (c .binomial-in .ensures) (c .before .before .before .before .before .before .before .before .before .before .before .pre .0 .1))
+add-next c =
+    let to = c .before .before .before .before .before .before .before .before .before .before .before .pre .1 in
+    let f = c .before .loop .inv in
+    let ways = c .binomial-in .ensures in
+    let last = c .before .before .before .before .before .before .before .before .before .before .before .pre .0 .1 in
+    omega (arith, cell-inside to refl f _ ways last)
 
 same-length : tie.Need-same-length Inv-loop μ-loop
 same-length c = search needs
 
 returns : tie.Need-returns Inv-loop μ-loop
-returns c = last-filled (c .before .before .before .before .before .before .before .before .before .before .before .before .pre .1) refl (c .before .before .loop .inv) _ (c .before .binomial-in .ensures) (c .before .before .before .before .before .before .before .before .before .before .before .before .pre .0 .1) (c .if1 .taken)
+returns c =
+    let to = c .before .before .before .before .before .before .before .before .before .before .before .before .pre .1 in
+    let f = c .before .before .loop .inv in
+    let ways = c .before .binomial-in .ensures in
+    let last = c .before .before .before .before .before .before .before .before .before .before .before .before .pre .0 .1 in
+    last-filled to refl f _ ways last (c .if1 .taken)
 
 mul-power : tie.Need-mul-power Inv-loop μ-loop
-mul-power c = record { fits = power-more-low (c .before .before .before .before .before .before .before .before .before .before .before .before .pre .1) refl (c .before .before .loop .inv) (omega (arith, c .before .before .loop .inv .index)) }
+mul-power c =
+    let to = c .before .before .before .before .before .before .before .before .before .before .before .before .pre .1 in
+    let f = c .before .before .loop .inv in
+    record { fits = power-more-low to refl f (omega (arith, f .index)) }
 
 add-i : tie.Need-add-i Inv-loop μ-loop
-add-i c = omega (arith, index-small (c .before .before .before .before .before .before .before .before .before .before .before .before .pre .1) refl (c .before .before .loop .inv))
+add-i c =
+    let to = c .before .before .before .before .before .before .before .before .before .before .before .before .pre .1 in
+    let f = c .before .before .loop .inv in
+    omega (arith, index-small to refl f)
 
 loop-less : tie.Need-loop-less Inv-loop μ-loop
 loop-less c = omega (arith, c .before .before .loop .inv .index)
 
 loop-again : tie.Need-loop-again Inv-loop μ-loop
-loop-again c = last-more (c .before .before .before .before .before .before .before .before .before .before .before .before .pre .1) refl (c .before .before .loop .inv) _ (c .before .binomial-in .ensures) (c .before .before .before .before .before .before .before .before .before .before .before .before .pre .0 .1) (omega (arith, c .before .before .loop .inv .index))
+loop-again c =
+    let to = c .before .before .before .before .before .before .before .before .before .before .before .before .pre .1 in
+    let f = c .before .before .loop .inv in
+    let ways = c .before .binomial-in .ensures in
+    let last = c .before .before .before .before .before .before .before .before .before .before .before .before .pre .0 .1 in
+    last-more to refl f _ ways last (omega (arith, f .index))
 
 pub fill-last-spec : {M : Type 1} → statement M
 fill-last-spec =

@@ -1,5 +1,4 @@
 -- `presence` meets its contract: case by case.
-use borrow.Author.Needs.{needs}
 use Rattle.weights.specs.Present.{presence}
 use Rattle.weights.proofs.PresentLaws.{presence-one}
 use Rattle.weights.proofs.presence.Statement.{statement}

@@ -9,10 +9,10 @@ use Rattle.weights.proofs.those_present.Statement.{statement}
 use Rattle.weights.proofs.those_present.Tie as tie
 
 abbrev Inv-loop : tie.InvT-loop
-Inv-loop loads lows highs p₀ a₀ b₀ n₀ k₀ p a b n k = Keeping highs loads k n p × Keeping highs lows k n a × Keeping highs highs k n b
+Inv-loop loads lows highs keptLoads₀ keptLows₀ keptHighs₀ n₀ k₀ keptLoads keptLows keptHighs n k = Keeping highs loads k n keptLoads × Keeping highs lows k n keptLows × Keeping highs highs k n keptHighs
 
 abbrev μ-loop : tie.MeasureT-loop
-μ-loop loads lows highs p₀ a₀ b₀ n₀ k₀ p a b n k = length loads - k
+μ-loop loads lows highs keptLoads₀ keptLows₀ keptHighs₀ n₀ k₀ keptLoads keptLows keptHighs n k = length loads - k
 
 loop-holds : tie.Need-loop-holds Inv-loop μ-loop
 loop-holds c = (keeping-start _ _, keeping-start _ _, keeping-start _ _)
@@ -23,41 +23,43 @@ mul-high c = search needs
 shared-slice-read-high : tie.Need-shared-slice-read-high Inv-loop μ-loop
 shared-slice-read-high c = search needs
 
-mul-p : tie.Need-mul-p Inv-loop μ-loop
-mul-p c = search needs
+mul-kept-loads : tie.Need-mul-kept-loads Inv-loop μ-loop
+mul-kept-loads c = search needs
 
-shared-slice-read-p : tie.Need-shared-slice-read-p Inv-loop μ-loop
-shared-slice-read-p c = search needs
+shared-slice-read-kept-loads : tie.Need-shared-slice-read-kept-loads Inv-loop μ-loop
+shared-slice-read-kept-loads c = search needs
 
-mul-p-2 : tie.Need-mul-p-2 Inv-loop μ-loop
-mul-p-2 c = search needs
+mul-kept-loads-2 : tie.Need-mul-kept-loads-2 Inv-loop μ-loop
+mul-kept-loads-2 c = search needs
 
-array-write-p : tie.Need-array-write-p Inv-loop μ-loop
-array-write-p c = search needs
+array-write-kept-loads : tie.Need-array-write-kept-loads Inv-loop μ-loop
+array-write-kept-loads c = search needs
 
-mul-a : tie.Need-mul-a Inv-loop μ-loop
-mul-a c = search needs
+mul-kept-lows : tie.Need-mul-kept-lows Inv-loop μ-loop
+mul-kept-lows c = search needs
 
-shared-slice-read-a : tie.Need-shared-slice-read-a Inv-loop μ-loop
-shared-slice-read-a c = search needs
+shared-slice-read-kept-lows : tie.Need-shared-slice-read-kept-lows Inv-loop μ-loop
+shared-slice-read-kept-lows c = search needs
 
-mul-a-2 : tie.Need-mul-a-2 Inv-loop μ-loop
-mul-a-2 c = search needs
+mul-kept-lows-2 : tie.Need-mul-kept-lows-2 Inv-loop μ-loop
+mul-kept-lows-2 c = search needs
 
-array-write-a : tie.Need-array-write-a Inv-loop μ-loop
-array-write-a c = search needs
+array-write-kept-lows : tie.Need-array-write-kept-lows Inv-loop μ-loop
+array-write-kept-lows c = search needs
 
-mul-b : tie.Need-mul-b Inv-loop μ-loop
-mul-b c = search needs
+mul-kept-highs : tie.Need-mul-kept-highs Inv-loop μ-loop
+mul-kept-highs c = search needs
 
-array-write-b : tie.Need-array-write-b Inv-loop μ-loop
-array-write-b c = search needs
+array-write-kept-highs : tie.Need-array-write-kept-highs Inv-loop μ-loop
+array-write-kept-highs c = search needs
 
 presence-requires : tie.Need-presence-requires Inv-loop μ-loop
 presence-requires c κs = search needs
 
 add-n : tie.Need-add-n Inv-loop μ-loop
-add-n c = omega (arith, presence-low _ _ (c .presence .ensures), keeping-low (c .before .before .before .before .before .loop .inv .0) (omega (arith, c .before .before .before .before .before .before .before .before .before .pre .few, c .before .before .before .before .before .before .before .before .before .pre .highs-length)))
+add-n c =
+    let ends = c .before .before .before .before .before .before .before .before .before .pre in
+    omega (arith, presence-low _ _ (c .presence .ensures), keeping-low (c .before .before .before .before .before .loop .inv .0) (omega (arith, ends .few, ends .highs-length)))
 
 add-k : tie.Need-add-k Inv-loop μ-loop
 add-k c = search needs
@@ -79,7 +81,7 @@ returns c =
     let v = c .before .loop .inv in
     let most : length (c .before .before .before .before .before .args .highs .now) ≤ 8 = omega (arith, c .before .before .before .before .before .pre .few, c .before .before .before .before .before .pre .highs-length) in
     let h : length (c .before .before .before .before .before .args .highs .now) ≤ c .before .loop .k = omega (arith, c .before .before .before .before .before .pre .highs-length) in
-    (keeping-done (v .0) most h, (keeping-done (v .1) most h, keeping-done (v .2) most h))
+    record { loads-taken = keeping-done (v .0) most h; lows-taken = keeping-done (v .1) most h; highs-taken = keeping-done (v .2) most h }
 
 pub those-present-spec : {M : Type 1} → statement M
 those-present-spec =
@@ -90,16 +92,16 @@ those-present-spec =
     loop-holds
     mul-high
     shared-slice-read-high
-    mul-p
-    shared-slice-read-p
-    mul-p-2
-    array-write-p
-    mul-a
-    shared-slice-read-a
-    mul-a-2
-    array-write-a
-    mul-b
-    array-write-b
+    mul-kept-loads
+    shared-slice-read-kept-loads
+    mul-kept-loads-2
+    array-write-kept-loads
+    mul-kept-lows
+    shared-slice-read-kept-lows
+    mul-kept-lows-2
+    array-write-kept-lows
+    mul-kept-highs
+    array-write-kept-highs
     presence-requires
     add-n
     add-k
