@@ -2,18 +2,21 @@
 -- loops as its first loop and the others.
 use Prim.Native.Nat.{ℕ, suc, _+_, _-_, _*_, _^_, _≤_, _<_}
 use mathlib.Core.Path.{_≡_, refl, sym, ap, _∙_}
+use mathlib.Core.Bool.{Bool, true, false}
+use mathlib.Core.Logic.{_⊎_, inl, inr}
 use mathlib.Core.List.{List, [], _∷_, flatMap, append-nil}
 use native.Mathlib.Nat.{le-refl}
 use native.Mathlib.Omega.{arith}
-use borrow.Author.Tests.{lt-ltb, le-ltb}
+use borrow.Author.Tests.{lt-ltb, le-ltb, ltb-true, ltb-false}
 use lib.Dec.{ltb}
 use lib.ListN.{length, getD, set, take, drop, length-set}
 use lib.Seq.{take-all, set-set, set-getD, set-out}
 use Rattle.sums.specs.Lists.{from}
 use Rattle.network.specs.Pairs.{Pair}
 use Rattle.joins.specs.Walk.{State, walk, ended, nextTurn}
-use Rattle.joins.specs.Loops.{cellPairs, loopPairs, At, Numbers, times, Sound}
+use Rattle.joins.specs.Loops.{cellPairs, loopThen, firstLoop, loopPairs, At, Numbers, times, Sound}
 use Rattle.joins.specs.declared.Join.{Join}
+use Rattle.joins.specs.declared.Loop.{Loop}
 use Rattle.joins.proofs.TurnLaws.{ahead, ahead-all, Walked, walk-again, walk-ends}
 
 pub times-in : (p len count n : ℕ) → p < len → count * n ≡ times (ltb p len) count n
@@ -77,15 +80,15 @@ restored rows rows₀ rows' p old f o e = e ∙ f old ∙ ap (set rows₀ p) o �
 
 -- ---- a flat list's first loop and the others
 
-pub first-loop : (loops : List ℕ) → 5 ≤ length loops → loops ≡ getD loops 0 0 ∷ getD loops 1 0 ∷ getD loops 2 0 ∷ getD loops 3 0 ∷ getD loops 4 0 ∷ take (length loops - 5) (drop 5 loops)
-first-loop [] k = absurd (omega arith)
-first-loop (n ∷ []) k = absurd (omega arith)
-first-loop (n ∷ p ∷ []) k = absurd (omega arith)
-first-loop (n ∷ p ∷ a ∷ []) k = absurd (omega arith)
-first-loop (n ∷ p ∷ a ∷ b ∷ []) k = absurd (omega arith)
-first-loop (n ∷ p ∷ a ∷ b ∷ c ∷ loops) k = ap (λ x. n ∷ p ∷ a ∷ b ∷ c ∷ x) (sym (take-all (suc (suc (suc (suc (suc (length loops))))) - 5) loops (omega arith)))
+loop-first : (loops : List ℕ) → 5 ≤ length loops → loops ≡ getD loops 0 0 ∷ getD loops 1 0 ∷ getD loops 2 0 ∷ getD loops 3 0 ∷ getD loops 4 0 ∷ take (length loops - 5) (drop 5 loops)
+loop-first [] k = absurd (omega arith)
+loop-first (n ∷ []) k = absurd (omega arith)
+loop-first (n ∷ p ∷ []) k = absurd (omega arith)
+loop-first (n ∷ p ∷ a ∷ []) k = absurd (omega arith)
+loop-first (n ∷ p ∷ a ∷ b ∷ []) k = absurd (omega arith)
+loop-first (n ∷ p ∷ a ∷ b ∷ c ∷ loops) k = ap (λ x. n ∷ p ∷ a ∷ b ∷ c ∷ x) (sym (take-all (suc (suc (suc (suc (suc (length loops))))) - 5) loops (omega arith)))
 
-pub last-loop : (loops : List ℕ) → length loops ≡ 5 → loops ≡ getD loops 0 0 ∷ getD loops 1 0 ∷ getD loops 2 0 ∷ getD loops 3 0 ∷ getD loops 4 0 ∷ []
+last-loop : (loops : List ℕ) → length loops ≡ 5 → loops ≡ getD loops 0 0 ∷ getD loops 1 0 ∷ getD loops 2 0 ∷ getD loops 3 0 ∷ getD loops 4 0 ∷ []
 last-loop [] k = absurd (omega arith)
 last-loop (n ∷ []) k = absurd (omega arith)
 last-loop (n ∷ p ∷ []) k = absurd (omega arith)
@@ -97,9 +100,6 @@ last-loop (n ∷ p ∷ a ∷ b ∷ c ∷ x ∷ loops) k = absurd (omega arith)
 module _ (size : ℕ) (join : Join) (rows : List ℕ) (l r t count : ℕ) where
   pub sound-as : {loops loops' : List ℕ} → loops ≡ loops' → Sound size join loops rows l r t count → Sound size join loops' rows l r t count
   sound-as e s = rw (← e) s
-
-pub pairs-as : (join : Join) (rows : List ℕ) (l r t : ℕ) (s u : State) {loops loops' : List ℕ} → loops ≡ loops' → u ≡ walk (loopPairs join loops' rows l r t) s → u ≡ walk (loopPairs join loops rows l r t) s
-pairs-as join rows l r t s u d e = e ∙ ap (λ x. walk (loopPairs join x rows l r t) s) (sym d)
 
 -- ---- no loop is as good as one of one, whose row lies past the end
 
@@ -116,7 +116,7 @@ module _ (size : ℕ) (join : Join) (rows : List ℕ) (l r t count : ℕ) where
   one-of-one : (i : ℕ) → i < 1 → (x : ℕ) → x + i * 0 ≡ x
   one-of-one i h x = omega arith
 
-  pub dummy-sound : (loops : List ℕ) → length loops < 5 → size < 2 ^ 64 → count < 2 ^ 64 → Sound size join loops rows l r t count → Sound size join (1 ∷ length rows ∷ 0 ∷ 0 ∷ 0 ∷ []) rows l r t count
+  dummy-sound : (loops : List ℕ) → length loops < 5 → size < 2 ^ 64 → count < 2 ^ 64 → Sound size join loops rows l r t count → Sound size join (1 ∷ length rows ∷ 0 ∷ 0 ∷ 0 ∷ []) rows l r t count
   unfolding Sound
   dummy-sound loops k hs hc s = λ i h.
       let at = no-loop loops k s in
@@ -127,7 +127,7 @@ module _ (size : ℕ) (join : Join) (rows : List ℕ) (l r t count : ℕ) where
         rw (one-of-one i h l, one-of-one i h r, one-of-one i h t, f, g) at,
       )
 
-pub dummy-pairs : (join : Join) (rows : List ℕ) (l r t : ℕ) (s u : State) (loops : List ℕ) → length loops < 5 → u ≡ walk (loopPairs join (1 ∷ length rows ∷ 0 ∷ 0 ∷ 0 ∷ []) rows l r t) s → u ≡ walk (loopPairs join loops rows l r t) s
+dummy-pairs : (join : Join) (rows : List ℕ) (l r t : ℕ) (s u : State) (loops : List ℕ) → length loops < 5 → u ≡ walk (loopPairs join (1 ∷ length rows ∷ 0 ∷ 0 ∷ 0 ∷ []) rows l r t) s → u ≡ walk (loopPairs join loops rows l r t) s
 unfolding loopPairs flatMap from
 dummy-pairs join rows l r t s u loops k e =
     let d : loopPairs join (1 ∷ length rows ∷ 0 ∷ 0 ∷ 0 ∷ []) rows l r t ≡ cellPairs join (set rows (length rows) 1) (l + 0 * 0) (r + 0 * 0) (t + 0 * 0) = append-nil _ in
@@ -144,3 +144,42 @@ dummy-pairs join rows l r t s u loops k e =
     alone (n ∷ p ∷ a ∷ []) k = refl
     alone (n ∷ p ∷ a ∷ b ∷ []) k = refl
     alone (n ∷ p ∷ a ∷ b ∷ c ∷ loops) k = absurd (omega arith)
+
+-- ---- the first loop as the code reads it
+
+module _ (loops : List ℕ) (past : ℕ) where
+  pub first-dummy : length loops < 5 → record { count = 1; row = past; left = 0; right = 0; own = 0 } ≡ firstLoop loops past
+  unfolding firstLoop
+  first-dummy h = rw (lt-ltb (length loops) 5 h)
+
+  pub first-read : 5 ≤ length loops → record { count = getD loops 0 0; row = getD loops 1 0; left = getD loops 2 0; right = getD loops 3 0; own = getD loops 4 0 } ≡ firstLoop loops past
+  unfolding firstLoop
+  first-read h = rw (le-ltb (length loops) 5 h)
+
+  module _ (one : Loop) (is : one ≡ firstLoop loops past) where
+    -- of several
+    pub first-is : 5 < length loops → loops ≡ loopThen one (take (length loops - 5) (drop 5 loops))
+    first-is h = loop-first loops (omega arith) ∙ ap (λ o. loopThen o (take (length loops - 5) (drop 5 loops))) (first-read (omega arith) ∙ sym is)
+
+    -- the only one, or none
+    few : length loops ≤ 5 → ((length loops < 5) × (record { count = 1; row = past; left = 0; right = 0; own = 0 } ≡ one)) ⊎ (loops ≡ loopThen one [])
+    few h = by (ltb (length loops) 5) refl
+      where
+        by : (b : Bool) → ltb (length loops) 5 ≡ b → ((length loops < 5) × (record { count = 1; row = past; left = 0; right = 0; own = 0 } ≡ one)) ⊎ (loops ≡ loopThen one [])
+        by true e = let k = ltb-true (length loops) 5 e in inl (k, first-dummy k ∙ sym is)
+        by false e = let k : length loops ≡ 5 = omega (arith, ltb-false (length loops) 5 e) in inr (last-loop loops k ∙ ap (λ o. loopThen o []) (first-read (omega arith) ∙ sym is))
+
+module _ (join : Join) (rows : List ℕ) (l r t : ℕ) (loops : List ℕ) (one : Loop) (is : one ≡ firstLoop loops (length rows)) (h : length loops ≤ 5) where
+  pub few-sound : (size count : ℕ) → size < 2 ^ 64 → count < 2 ^ 64 → Sound size join loops rows l r t count → Sound size join (loopThen one []) rows l r t count
+  few-sound size count hs hc s = by (few loops (length rows) one is h)
+    where
+      by : ((length loops < 5) × (record { count = 1; row = length rows; left = 0; right = 0; own = 0 } ≡ one)) ⊎ (loops ≡ loopThen one []) → Sound size join (loopThen one []) rows l r t count
+      by (inl k) = rw (← k .1) (dummy-sound size join rows l r t count loops (k .0) hs hc s)
+      by (inr k) = sound-as size join rows l r t count k s
+
+  pub few-pairs : (s u : State) → u ≡ walk (loopPairs join (loopThen one []) rows l r t) s → u ≡ walk (loopPairs join loops rows l r t) s
+  few-pairs s u e = by (few loops (length rows) one is h)
+    where
+      by : ((length loops < 5) × (record { count = 1; row = length rows; left = 0; right = 0; own = 0 } ≡ one)) ⊎ (loops ≡ loopThen one []) → u ≡ walk (loopPairs join loops rows l r t) s
+      by (inl k) = dummy-pairs join rows l r t s u loops (k .0) (e ∙ ap (λ o. walk (loopPairs join (loopThen o []) rows l r t) s) (sym (k .1)))
+      by (inr k) = e ∙ ap (λ x. walk (loopPairs join x rows l r t) s) (sym k)

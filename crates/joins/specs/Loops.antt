@@ -5,7 +5,8 @@ use mathlib.Core.Path.{_≡_}
 use mathlib.Core.Bool.{Bool, true, false}
 use mathlib.Core.List.{List, [], _∷_, map, flatMap}
 use lib.Dec.{ltb}
-use lib.ListN.{length, set}
+use lib.ListN.{length, getD, set}
+use Rattle.sums.specs.Choice.{choose}
 use Rattle.sums.specs.Lists.{from}
 use Rattle.network.specs.Pairs.{Pair}
 use Rattle.cellsums.specs.Places.{places, Within}
@@ -23,6 +24,12 @@ cellPairs join rows l r t = map (pairAt join t) (places rows l r)
 -- chain is not shared), and the left, right and own stride
 abbrev pub loopThen : Loop → List ℕ → List ℕ
 loopThen one loops = one .count ∷ one .row ∷ one .left ∷ one .right ∷ one .own ∷ loops
+
+-- the first loop; where there is none, a dummy of one whose row lies past the end
+unfoldable pub firstLoop : List ℕ → ℕ → Loop
+firstLoop loops past =
+    choose (ltb (length loops) 5) (λ u. record { count = 1; row = past; left = 0; right = 0; own = 0 }) λ u.
+    record { count = getD loops 0 0; row = getD loops 1 0; left = getD loops 2 0; right = getD loops 3 0; own = getD loops 4 0 }
 
 -- the chain of a loop at i: its row, if it has one, has i + 1 pairs
 unfoldable pub loopPairs : Join → List ℕ → List ℕ → ℕ → ℕ → ℕ → List Pair

@@ -12,7 +12,7 @@ ghost use lib.Dec.{ltb};
 ghost use lib.ListN.{length, getD, set};
 ghost use Rattle.cellsums.specs.Places.{places};
 ghost use Rattle.joins.specs.Walk.{state, walk};
-ghost use Rattle.joins.specs.Loops.{cellPairs, loopThen, loopPairs, Inside, times as timesOf, Sound};
+ghost use Rattle.joins.specs.Loops.{cellPairs, loopThen, firstLoop, loopPairs, Inside, times as timesOf, Sound};
 
 fn put(own: &mut [u64], i: usize, v: u64)
     requires { ⌜ i < length (now own) ⌝ }
@@ -257,7 +257,29 @@ fn walk_last(
     e
 }
 
-// A loop for each chain that is partial at the result. Where there is none, one dummy loop of one.
+// The first loop. Where there is none, a dummy loop of one whose row lies past the end.
+fn first_loop(loops: &[usize], past: usize) -> Loop
+    ensures { λ one. ⌜ one ≡ firstLoop (now (loops .entry)) past ⌝ }
+{
+    if loops.len() < 5 {
+        return Loop {
+            count: 1,
+            row: past,
+            left: 0,
+            right: 0,
+            own: 0,
+        };
+    }
+    Loop {
+        count: loops[0],
+        row: loops[1],
+        left: loops[2],
+        right: loops[3],
+        own: loops[4],
+    }
+}
+
+// A loop for each chain that is partial at the result.
 pub fn walk_loops(
     area: &mut [u64],
     join: Join,
@@ -273,31 +295,12 @@ pub fn walk_loops(
     ensures { λ e. ⌜ (state e (now (area .exit)) ≡ walk (loopPairs join (now (loops .entry)) (now (rows .entry)) l r t) (state q (now (area .entry)))) × (now (rows .exit) ≡ now (rows .entry)) ⌝ }
 {
     let len = rows.len();
-    if loops.len() < 5 {
-        let dummy = Loop {
-            count: 1,
-            row: len,
-            left: 0,
-            right: 0,
-            own: 0,
-        };
-        return walk_last(area, join, dummy, rows, l, r, t, count, q);
+    let one = first_loop(loops, len);
+    if loops.len() <= 5 {
+        return walk_last(area, join, one, rows, l, r, t, count, q);
     }
-    let n = loops[0];
-    let p = loops[1];
-    let a = loops[2];
-    let b = loops[3];
-    let c = loops[4];
-    if loops.len() == 5 {
-        let last = Loop {
-            count: n,
-            row: p,
-            left: a,
-            right: b,
-            own: c,
-        };
-        return walk_last(area, join, last, rows, l, r, t, count, q);
-    }
+    let n = one.count;
+    let p = one.row;
     let old = value_at(rows, p);
     let mut e = q;
     let mut i: usize = 0;
@@ -308,9 +311,9 @@ pub fn walk_loops(
             join,
             &loops[5..],
             rows,
-            l + i * a,
-            r + i * b,
-            t + i * c,
+            l + i * one.left,
+            r + i * one.right,
+            t + i * one.own,
             times(count, p, len, i + 1),
             e,
         );
