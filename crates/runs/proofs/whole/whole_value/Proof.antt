@@ -1,6 +1,7 @@
 -- `whole_value` meets its contract: a leaf too large, a pair that stops, or all pairs done.
 use mathlib.Core.Path.{refl, sym, _∙_}
-use Rattle.runs.proofs.WholeLaws.{prepared, some-cells, whole-large, room-filled, whole-kept, whole-stopped, whole-exact, last-inside}
+use Rattle.plan.proofs.PreparedLaws.{some-cells}
+use Rattle.runs.proofs.WholeLaws.{prepared, whole-large, room-filled, whole-kept, whole-stopped, whole-exact, last-inside}
 use borrow.Author.Needs.{needs}
 use Rattle.runs.proofs.whole.whole_value.Statement.{statement}
 use Rattle.runs.proofs.whole.whole_value.Tie as tie
@@ -54,7 +55,7 @@ returns-2 c = (whole-stopped _ _ _ (prepared _ _ _ (c .before .before .before .b
 
 -- src/whole.rt:40:22
 sub-t17 : tie.Need-sub-t17
-sub-t17 c = some-cells _ _ _ (prepared _ _ _ (c .before .before .before .before .before .before .before .before .before .before .before .before .before .before .before .before .before .pre .0) (c .before .before .before .before .before .before .before .before .before .before .before .before .before .before .before .make-table .ensures))
+sub-t17 c = some-cells (prepared _ _ _ (c .before .before .before .before .before .before .before .before .before .before .before .before .before .before .before .before .before .pre .0) (c .before .before .before .before .before .before .before .before .before .before .before .before .before .before .before .make-table .ensures))
 
 -- src/whole.rt:40:17
 mul-t21 : tie.Need-mul-t21
