@@ -7,7 +7,6 @@ use lib.ListN.{length}
 use Rattle.modelfile.specs.File.{readFile, treePart}
 use Rattle.modelfile.specs.declared.Verdict.{Verdict}
 use Rattle.modelfile.proofs.PartLaws.{first-inside, part-length, part-refused}
-use Rattle.board.specs.declared.PartNumbers.{PartNumbers}
 use Rattle.board.specs.Numbers.{partIn, partAnswer}
 
 -- what is told of an answer that is known

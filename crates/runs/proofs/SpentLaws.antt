@@ -12,7 +12,7 @@ use Rattle.sums.specs.Choice.{choose}
 use Rattle.network.specs.Run.{Progress, spend}
 use Rattle.network.proofs.SpendLaws.{went, spend-length}
 use Rattle.modelfile.specs.declared.Model.{Model}
-use Rattle.calls.specs.Asked.{ask, cellsIn, pairsIn, pairsListed}
+use Rattle.calls.specs.Asked.{ask, pairsListed}
 use Rattle.calls.specs.Advance.{noAdvance, valueAt, told, advanceIn, advance}
 use Rattle.calls.specs.declared.AdvanceAnswer.{AdvanceAnswer}
 use Rattle.calls.proofs.SlotLaws.{listed-pairs}
