@@ -1,12 +1,13 @@
 -- A prepared run: its windows fit the model, its tree has every centre once, and its table's entries are those of the nodes in postorder.
 use Prim.Native.Nat.{ℕ, _≤_, _<_}
-use mathlib.Core.Path.{_≡_, sym, ap, _∙_}
-use mathlib.Core.List.{List, [], map, append-nil}
+use mathlib.Core.Path.{_≡_, refl, sym, ap, _∙_}
+use mathlib.Core.List.{List, [], map, append-nil, List·Memᴰ·head}
 use native.Mathlib.Omega.{arith}
 use lib.ListN.{length, getD, take, length-map}
 use lib.Seq.{length-take-le, getD-take}
-use Rattle.sums.proofs.ListLaws.{getD-map-in}
-use Rattle.network.specs.Coverage.{Tree, under}
+use Rattle.sums.proofs.ListLaws.{getD-map-in, from-out}
+use Rattle.sums.proofs.PermLaws.{perm-in}
+use Rattle.network.specs.Coverage.{Tree, leaf, under}
 use Rattle.network.proofs.CoverageLaws.{Parted}
 use Rattle.network.proofs.AreaLaws.{cells-some}
 use Rattle.network.proofs.PostorderLaws.{postorder, none}
@@ -47,6 +48,12 @@ module _ {m : Model} {windows : List ℕ} {t : Table} (p : Prepared m windows t)
 
   pub parted-all : Parted (routesIn m) (under (treeOf m)) []
   parted-all = rw (append-nil (under (treeOf m)), length-routes m (p .guaranteed)) (p .guaranteed .leaves)
+
+  pub centre-range : (c : ℕ) (rest : List ℕ) → Parted (routesIn m) (under (leaf c)) rest → (1 ≤ c) × (c ≤ m .centres)
+  unfolding under
+  centre-range c rest parted =
+      let r = from-out 1 (length (routesIn m)) c (perm-in parted (List·Memᴰ·head refl)) in
+      (omega (arith, r), omega (arith, r, length-routes m (p .guaranteed)))
 
   -- ---- the table
 

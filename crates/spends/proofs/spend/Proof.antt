@@ -3,7 +3,8 @@ use Prim.Native.Nat.{_-_}
 use mathlib.Core.Path.{refl, _∙_}
 use native.Mathlib.Omega.{arith}
 use borrow.Author.Needs.{needs}
-use Rattle.spends.proofs.TableLaws.{Walked, walked-first, walked-turn, walked-last, count-few, node-in}
+use Rattle.plan.proofs.PreparedLaws.{count-few}
+use Rattle.spends.proofs.TableLaws.{Walked, walked-first, walked-turn, walked-last, node-in}
 use Rattle.spends.proofs.spend.Statement.{statement}
 use Rattle.spends.proofs.spend.Tie as tie
 
