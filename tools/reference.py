@@ -5,6 +5,7 @@ It wrote the expected output of the programs in crates/; the gate does not need 
     tools/reference.py sheet FILE          the printed sheet
     tools/reference.py plan LOWER FILE     number, place, cells, pairs
     tools/reference.py damage              what the program `damage` prints
+    tools/reference.py slots               what the program `slots` prints
 """
 import sys
 from itertools import product
@@ -189,6 +190,78 @@ def sheet(file, room=8192):
     return lines
 
 
+def index_pairs(left, right, index):
+    """The pairs of a result index: (left index, right index), the last shared chain fastest. `left` and `right` hold the coverage and the
+    sole index value, where there is one, of each chain."""
+    def chain_pairs(l, r, i):
+        if l[0] == r[0] == 'partial':
+            return [(j, i - j) for j in range(i + 1)]
+        return [(i if l[0] == 'partial' else l[1], i if r[0] == 'partial' else r[1])]
+    return [tuple(zip(*chosen)) for chosen in product(*map(chain_pairs, left, right, index))]
+
+
+def layout(model, windows):
+    """Node by node in postorder: the node, and its cell of each index."""
+    base = 0
+    for t in nodes(model['tree']):
+        indices = list(product(*index_values(coverage(model, t), windows)))
+        yield t, {index: base + place for place, index in enumerate(indices)}
+        base += len(indices)
+
+
+def listed(model, windows):
+    """The pairs in order: left cell, right cell, result cell."""
+    def sides(t):
+        cover = coverage(model, t)
+        return [(c, v[0]) for c, v in zip(cover, index_values(cover, windows))]
+    places = dict(layout(model, windows))
+    return [(places[t[0]][l], places[t[1]][r], result)
+            for t, at in places.items() if not isinstance(t, int)
+            for index, result in at.items()
+            for l, r in index_pairs(sides(t[0]), sides(t[1]), index)]
+
+
+def run_in(file, lower, area):
+    """The model and the windows of a run in an area."""
+    model = read(file)
+    windows = lowered(model, lower)
+    if cells(model, windows) > min(8192, len(area)):
+        raise Refused(12, 0)
+    return model, windows
+
+
+def start(file, lower, area):
+    """Writes the area; what is told of the answer."""
+    try:
+        model, windows = run_in(file, lower, area)
+        filled = [weight(model, t, index) if isinstance(t, int) else 0 for t, at in layout(model, windows) for index in at]
+        if max(filled) >= LIMIT:
+            raise Refused(14, 0)
+    except Refused as r:
+        return f'refused {r.number} {r.place}'
+    area[:len(filled)] = filled
+    return 'started'
+
+
+def advance(file, lower, done, budget, area):
+    """Writes the area; the number done, and what is told of the answer."""
+    try:
+        model, windows = run_in(file, lower, area)
+        order = listed(model, windows)
+        assert len(order) == pairs(model, windows)
+        if done > len(order):
+            raise Refused(13, 0)
+    except Refused as r:
+        return 0, f'refused {r.number} {r.place}'
+    for left, right, result in order[done:done + budget]:
+        total = area[result] + area[left] * area[right]
+        if total >= LIMIT:
+            return done, f'stopped {done}'
+        area[result] = total
+        done += 1
+    return done, f'{done} {area[cells(model, windows) - 1] if done == len(order) else 0}'
+
+
 B = bytes.fromhex('0103020201010202010301010001030102000203020100030303020001040104020504030506')
 VALUES = [0, 1, 2, 3, 4, 5, 6, 7, 8, 16, 17, 255]
 
@@ -208,6 +281,51 @@ def damage():
             yield line('p', at, 0, B[:at] + bytes([value]) + B[at:])
 
 
+def single(window, load):
+    return bytes([1, 1, 1, 2, 1, window, 3, 1, 1, load // 256, load % 256, 4, 1, 6])
+
+
+def couple(window, *loads):
+    return bytes([1, 2, 1, 2, 1, window] + [x for c in (1, 2) for x in (3, c, 1, loads[c - 1] // 256, loads[c - 1] % 256)] + [4, 1, 4, 2, 5, 6])
+
+
+MODELS = {
+    'B': B,
+    'other': B[:29] + bytes([4, 2, 4, 3, 5, 4, 1, 5, 6]),
+    'once': bytes([1, 2, 1, 2, 1, 3, 3, 1, 1, 0, 5, 4, 1, 4, 2, 5, 6]),
+    'two': couple(2, 1, 2),
+    'wide': couple(4, 65535, 1),
+    'wider': couple(4, 65535, 65535),
+    'both': bytes([1, 1, 2, 2, 1, 2, 2, 2, 1, 3, 1, 1, 0, 2, 3, 1, 2, 0, 3, 4, 1, 6]),
+    'idle': single(0, 9),
+    'large, window 4': single(4, 65535),
+    'large, window 5': single(5, 65535),
+    'exact': single(8, 256),
+    'below': single(8, 255),
+    'empty': b'',
+}
+MOST = LIMIT - 1
+SPLITS = [[n] * 8 for n in (0, 1, 2, 3, 7, MOST)] + [
+    [1, 0, 0, 0, 0, 0, 0, 0], [1, 2, 0, 0, 0, 0, 0, 0], [2, 0, 3, 1, 2, 0, 3, 1], [0, 1, 0, MOST, 0, 7, MOST, 0]]
+
+
+def slots():
+    """The lines of the program crates/slots: each model, each chain lowered; split budgets, each number done, each length of the area."""
+    def line(file, lower, done, budgets, room):
+        area = [7] * room
+        text = f'lowered {lower} from {done}: {start(file, lower, area)}'
+        for budget in budgets:
+            done, told = advance(file, lower, done, budget, area)
+            text += f', +{budget} {told}'
+        return ' '.join([text + '; cells'] + [str(n) for n in area])
+    for name, file in MODELS.items():
+        yield name
+        for lower in range(3):
+            yield from (line(file, lower, 0, budgets, 14) for budgets in SPLITS)
+            yield from (line(file, lower, done, [0, MOST], 14) for done in [*range(1, 10), MOST])
+            yield from (line(file, lower, 0, [MOST], room) for room in range(14))
+
+
 if __name__ == '__main__':
     if sys.argv[1:2] == ['sheet']:
         print('\n'.join(sheet(open(sys.argv[2], 'rb').read())))
@@ -215,5 +333,7 @@ if __name__ == '__main__':
         print(*plan(open(sys.argv[3], 'rb').read(), int(sys.argv[2])))
     elif sys.argv[1:2] == ['damage']:
         print('\n'.join(damage()))
+    elif sys.argv[1:2] == ['slots']:
+        print('\n'.join(slots()))
     else:
         sys.exit(__doc__)

@@ -1,25 +1,49 @@
 -- Each answer as numbers, case by case of the answer; and where the tree part stands.
-use Prim.Native.Nat.{ℕ, zero, suc, _-_}
+use Prim.Native.Nat.{ℕ, _+_, _-_, _≤_}
 use mathlib.Core.Path.{_≡_, refl, sym, ap, _∙_}
 use mathlib.Core.List.{List}
+use native.Mathlib.Omega.{arith}
 use lib.ListN.{length}
-use Rattle.modelfile.specs.File.{treePart}
-use Rattle.board.specs.declared.PartNumbers.{PartNumbers}
-use Rattle.board.specs.Numbers.{placeOf, partAnswer}
+use Rattle.modelfile.specs.File.{readFile, treePart}
+use Rattle.modelfile.specs.declared.Verdict.{Verdict}
+use Rattle.modelfile.proofs.PartLaws.{first-inside, part-length, part-refused}
+use Rattle.board.specs.Numbers.{partIn, partAnswer}
 
 -- what is told of an answer that is known
 pub told : {A B : Type 0} (f : A → B) {x r y : A} → r ≡ x → r ≡ y → f y ≡ f x
 told f e d = ap f (sym d ∙ e)
 
--- the tree part, empty or not
-pub part-none : (file part : List ℕ) → part ≡ treePart file → length part ≡ 0 → record { from = 0; length = 0 } ≡ partAnswer file
-unfolding partAnswer placeOf
-part-none file part e z = sym (ap (λ n. placeOf n (length file)) (sym (ap length e) ∙ z))
+-- the tree part: not empty exactly where the file is accepted, and then it ends just before the file's last byte
+module _ (file part : List ℕ) (e : part ≡ treePart file) where
+  accepted-some : readFile file .verdict ≡ Verdict.Accepted → (readFile file .model .first + length part + 1 ≡ length file) × (2 ≤ length part)
+  accepted-some v =
+      let n : readFile file .model .first + length part + 1 ≡ length file = rw e (part-length file v) in
+      (n, omega (arith, n, first-inside file v))
 
-pub part-some : (file part : List ℕ) → part ≡ treePart file → (length part ≡ 0 → ⊥) → (a b : ℕ) → a ≡ length file - 1 → b ≡ a - length part → record { from = b; length = length part } ≡ partAnswer file
-unfolding partAnswer placeOf
-part-some file part e f a b i j = (λ k. record { from = (j ∙ ap (λ n. n - length part) i) k; length = length part }) ∙ placed (length part) (length file) f ∙ ap (λ l. placeOf (length l) (length file)) e
-  where
-    placed : (n size : ℕ) → (n ≡ 0 → ⊥) → record { from = size - 1 - n; length = n } ≡ placeOf n size
-    placed zero size f = absurd (f refl)
-    placed (suc n) size f = refl
+  refused-none : (number place : ℕ) → readFile file .verdict ≡ Verdict.Refused number place → length part ≡ 0
+  refused-none number place v = ap length (e ∙ part-refused file number place v)
+
+  pub part-none : length part ≡ 0 → record { from = 0; length = 0 } ≡ partAnswer file
+  unfolding partAnswer partIn
+  part-none z = by (readFile file .verdict) refl
+    where
+      by : (v : Verdict) → readFile file .verdict ≡ v → record { from = 0; length = 0 } ≡ partIn v (readFile file .model .first) (length (treePart file))
+      by Verdict.Accepted d = absurd (omega (arith, z, accepted-some d .1))
+      by (Verdict.Refused number place) d = refl
+
+  module _ (some : length part ≡ 0 → ⊥) where
+    accepted : readFile file .verdict ≡ Verdict.Accepted
+    accepted = by (readFile file .verdict) refl
+      where
+        by : (v : Verdict) → readFile file .verdict ≡ v → v ≡ Verdict.Accepted
+        by Verdict.Accepted d = refl
+        by (Verdict.Refused number place) d = absurd (some (refused-none number place d))
+
+    pub part-inside : length part + 1 ≤ length file
+    part-inside = omega (arith, accepted-some accepted .0)
+
+    pub part-some : record { from = length file - 1 - length part; length = length part } ≡ partAnswer file
+    unfolding partAnswer partIn
+    part-some =
+        let f : length file - 1 - length part ≡ readFile file .model .first = omega (arith, accepted-some accepted .0) in
+        rw accepted (λ i. record { from = f i; length = length (e i) })

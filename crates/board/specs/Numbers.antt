@@ -1,8 +1,9 @@
 -- The answers as boards have them: document 01's number, place and values, field by field. Number 0 stands for no refusal.
-use Prim.Native.Nat.{ℕ, zero, suc, _-_}
+use Prim.Native.Nat.{ℕ}
 use mathlib.Core.List.{List}
 use lib.ListN.{length}
-use Rattle.modelfile.specs.File.{treePart}
+use Rattle.modelfile.specs.File.{readFile, treePart}
+use Rattle.modelfile.specs.declared.Verdict.{Verdict}
 use Rattle.calls.specs.declared.PlanAnswer.{PlanAnswer}
 use Rattle.calls.specs.declared.StartAnswer.{StartAnswer}
 use Rattle.calls.specs.declared.AdvanceAnswer.{AdvanceAnswer}
@@ -29,10 +30,10 @@ advanceAnswer (AdvanceAnswer.Refused number place) = record { refusal = number; 
 unfoldable pub sheetAnswer : SheetAnswer → SheetNumbers
 sheetAnswer s = record { refusal = s .refusal; place = s .place; value = s .value; pairs = s .pairs; cells = s .cells; chains = s .chains; numerators = s .numerators; busiest = s .busiest }
 
--- where the tree part begins and how long it is: it ends just before the end record, the file's last byte
-unfoldable pub placeOf : ℕ → ℕ → PartNumbers
-placeOf zero size = record { from = 0; length = 0 }
-placeOf (suc n) size = record { from = size - 1 - suc n; length = suc n }
+-- the tree part begins at the first leaf; 0 and 0 where the file is refused
+unfoldable pub partIn : Verdict → ℕ → ℕ → PartNumbers
+partIn Verdict.Accepted first size = record { from = first; length = size }
+partIn (Verdict.Refused number place) first size = record { from = 0; length = 0 }
 
 unfoldable pub partAnswer : List ℕ → PartNumbers
-partAnswer file = placeOf (length (treePart file)) (length file)
+partAnswer file = let r = readFile file in partIn (r .verdict) (r .model .first) (length (treePart file))

@@ -1,6 +1,5 @@
 // The calls for C and Rust: each answer as a struct of numbers, in the order of include/fenmantle.h.
 ghost use mathlib.Core.Path.{_≡_};
-ghost use Prim.Native.Nat.{_-_};
 ghost use Rattle.calls.specs.Plan.{plan};
 ghost use Rattle.calls.specs.Start.{start};
 ghost use Rattle.calls.specs.Advance.{advance};
@@ -139,14 +138,7 @@ pub extern "C" fn fenmantle_sheet(file: &[u8], area: &mut [u64]) -> SheetNumbers
     }
 }
 
-// n less k, 0 where that is less than 0.
-fn less(n: usize, k: usize) -> usize
-    ensures { λ r. ⌜ r ≡ n - k ⌝ }
-{
-    if k <= n { n - k } else { 0 }
-}
-
-// Where the tree part stands in the file: 0 and 0 where it is empty.
+// Where the tree part stands in the file, whose last byte is the end record: 0 and 0 where it is empty.
 #[no_mangle]
 pub extern "C" fn fenmantle_tree_part(file: &[u8]) -> PartNumbers
     ensures { λ r. ⌜ r ≡ partAnswer (now (file .entry)) ⌝ }
@@ -156,7 +148,7 @@ pub extern "C" fn fenmantle_tree_part(file: &[u8]) -> PartNumbers
     if length == 0 {
         return PartNumbers { from: 0, length: 0 };
     }
-    let from = less(less(file.len(), 1), length);
+    let from = file.len() - 1 - length;
     PartNumbers {
         from: from as u64,
         length: length as u64,

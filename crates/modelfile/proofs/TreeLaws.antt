@@ -16,7 +16,7 @@ unfoldable pub allUnder : List Tree → List ℕ
 allUnder [] = []
 allUnder (t ∷ stack) = allUnder stack ++ under t
 
-subtrees-append : (stack : List Tree) (xs ys : List ℕ) → subtrees stack (xs ++ ys) ≡ subtrees (subtrees stack xs) ys
+pub subtrees-append : (stack : List Tree) (xs ys : List ℕ) → subtrees stack (xs ++ ys) ≡ subtrees (subtrees stack xs) ys
 unfolding subtrees
 subtrees-append stack [] ys = refl
 subtrees-append stack (zero ∷ xs) ys = subtrees-append (joined stack) xs ys
@@ -27,7 +27,7 @@ unfolding subtrees
 subtrees-leaf stack zero h = absurd (omega arith)
 subtrees-leaf stack (suc c) h = refl
 
-joined-under : (stack : List Tree) → allUnder (joined stack) ≡ allUnder stack
+pub joined-under : (stack : List Tree) → allUnder (joined stack) ≡ allUnder stack
 unfolding allUnder joined under
 joined-under [] = refl
 joined-under (r ∷ []) = refl

@@ -1,12 +1,11 @@
 -- The entries of the subtrees that stand, one after the other: a leaf's entry follows them, and so does a join's, whose children are
 -- the last entry and the one before the right subtree.
 use Prim.Native.Nat.{ℕ, _+_, _-_, _<_}
-use mathlib.Core.Path.{_≡_, refl, sym, ap, _∙_}
-use mathlib.Core.List.{List, [], _∷_, _++_, map, append-assoc}
+use mathlib.Core.Path.{_≡_, refl, ap, _∙_}
+use mathlib.Core.List.{List, [], _∷_, _++_, append-assoc}
 use native.Mathlib.Omega.{arith}
 use lib.ListN.{length, getD, length-append, length-map, List·getD-append}
 use lib.Seq.{getD-append-seam}
-use Rattle.sums.proofs.ListLaws.{map-append}
 use Rattle.network.specs.Centre.{Route}
 use Rattle.network.specs.Coverage.{Tree, leaf, join}
 use Rattle.network.specs.Cells.{cells, spansAt, allCells, base}
@@ -16,6 +15,7 @@ use Rattle.plan.specs.Table.{pairsAt, entry, entries}
 use Rattle.plan.specs.Steps.{noNode}
 use Rattle.plan.specs.declared.Node.{Node}
 use Rattle.plan.proofs.StackLaws.{nodesOf}
+use Rattle.plan.proofs.EntriesLaws.{entryOf, entries-postorder}
 
 module _ (routes : List Route) (windows : List ℕ) where
   unfoldable pub forestCells : List Tree → ℕ
@@ -30,20 +30,8 @@ module _ (routes : List Route) (windows : List ℕ) where
   forest [] = []
   forest (t ∷ S) = forest S ++ entries routes windows t (forestCells S)
 
-  -- an entry for each node of the postorder
-  pub entries-postorder : (t : Tree) (b : ℕ) → entries routes windows t b ≡ map (λ x. entry routes windows (x .0) (x .1)) (postorder routes windows t b)
-  unfolding entries postorder
-  entries-postorder (leaf c) b = refl
-  entries-postorder (join l r) b =
-      let own : Tree × ℕ → Node = λ x. entry routes windows (x .0) (x .1) in
-      let second = b + allCells routes windows l in
-      let last : List (Tree × ℕ) = (join l r, b) ∷ [] in
-      (λ i. entries-postorder l b i ++ (entries-postorder r second i ++ map own last))
-      ∙ ap (λ es. map own (postorder routes windows l b) ++ es) (sym (map-append own (postorder routes windows r second) last))
-      ∙ sym (map-append own (postorder routes windows l b) (postorder routes windows r second ++ last))
-
   length-entries : (t : Tree) (b : ℕ) → length (entries routes windows t b) ≡ nodesIn t
-  length-entries t b = ap length (entries-postorder t b) ∙ length-map (postorder routes windows t b) (λ x. entry routes windows (x .0) (x .1)) ∙ length-postorder routes windows t b
+  length-entries t b = ap length (entries-postorder routes windows t b) ∙ length-map (postorder routes windows t b) (entryOf routes windows) ∙ length-postorder routes windows t b
 
   pub length-forest : (S : List Tree) → length (forest S) ≡ nodesOf S
   unfolding forest nodesOf

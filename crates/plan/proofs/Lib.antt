@@ -12,3 +12,4 @@ pub mod ModelLaws
 pub mod GrownLaws
 pub mod LowerLaws
 pub mod PlanLaws
+pub mod PreparedLaws

@@ -9,7 +9,7 @@ use lib.Seq.{take-suc, length-take-le}
 use Rattle.network.specs.Coverage.{Tree, leaf, join, under}
 use Rattle.network.proofs.PostorderLaws.{nodesIn}
 use Rattle.modelfile.specs.Network.{joined, subtrees}
-use Rattle.modelfile.proofs.TreeLaws.{allUnder}
+use Rattle.modelfile.proofs.TreeLaws.{allUnder, subtrees-append, joined-under}
 
 -- what one node makes of the subtrees, the latest first
 pub data Next : List Tree → ℕ → List Tree → Type 0 where
@@ -32,12 +32,6 @@ unfolding nodesIn under
 nodes-under (leaf c) = refl
 nodes-under (join l r) = omega (arith, nodes-under l, nodes-under r, length-append (under l) (under r))
 
-subtrees-append : (S : List Tree) (xs ys : List ℕ) → subtrees S (xs ++ ys) ≡ subtrees (subtrees S xs) ys
-unfolding subtrees
-subtrees-append S [] ys = refl
-subtrees-append S (zero ∷ xs) ys = subtrees-append (joined S) xs ys
-subtrees-append S (suc c ∷ xs) ys = subtrees-append (leaf (suc c) ∷ S) xs ys
-
 joined-nodes : (S : List Tree) → nodesOf (joined S) ≤ nodesOf S + 1
 unfolding joined nodesOf nodesIn
 joined-nodes [] = omega arith
@@ -49,12 +43,6 @@ unfolding subtrees nodesOf nodesIn
 nodes-few S [] = omega arith
 nodes-few S (zero ∷ xs) = omega (arith, nodes-few (joined S) xs, joined-nodes S)
 nodes-few S (suc c ∷ xs) = omega (arith, nodes-few (leaf (suc c) ∷ S) xs)
-
-joined-under : (S : List Tree) → allUnder (joined S) ≡ allUnder S
-unfolding allUnder joined under
-joined-under [] = refl
-joined-under (r ∷ []) = refl
-joined-under (r ∷ l ∷ S) = sym (append-assoc (allUnder S) (under l) (under r))
 
 under-subtrees : (S : List Tree) (xs : List ℕ) → allUnder (subtrees S xs) ≡ allUnder S ++ leavesIn xs
 unfolding subtrees leavesIn allUnder under

@@ -8,6 +8,7 @@ use Rattle.modelfile.proofs.Guaranteed.{Guaranteed}
 use Rattle.plan.specs.Table.{Tabled}
 use Rattle.plan.specs.Lowered.{askedOf}
 use Rattle.plan.specs.declared.Asked.{Asked}
+use Rattle.plan.specs.declared.Chains.{Chains}
 use Rattle.plan.specs.declared.Run.{Run}
 use Rattle.plan.specs.declared.Table.{Table}
 
@@ -17,6 +18,10 @@ pub record Prepared (m : Model) (windows : List ℕ) (t : Table) : Type 0 where
   pub windows-long : length windows ≡ 8
   pub windows-low : (k : ℕ) → getD windows k 0 ≤ 15
   pub tabled : Tabled m windows t
+
+-- the chains of a run
+abbrev pub chainsOf : Model → List ℕ → Table → Chains
+chainsOf m windows t = record { count = m .chains; totals = t .totals; windows = windows }
 
 pub record RunFor (asked : Rattle.calls.specs.Asked.Asked) (r : Run) : Type 0 where
   pub answer : askedOf (r .asked) (r .model) (r .windows) ≡ asked

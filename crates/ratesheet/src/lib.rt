@@ -1,7 +1,6 @@
 // The sheet call: the full model's value, then each chain lowered in turn, over one area that is 0 afterwards.
 mod answers; // answers.rt: the answer from the numbers, and refusals
 mod busiest; // busiest.rt: the centre with the largest sum of loads
-mod cells; // cells.rt: whether the area has room, and clearing it
 mod lowered; // lowered.rt: a numerator for each chain
 
 ghost use mathlib.Core.Path.{_≡_};
@@ -14,14 +13,14 @@ ghost use Rattle.calls.specs.Sheet.{sheetIn, sheetOf, sheet};
 ghost use Rattle.ratesheet.specs.Steps.{Kept};
 use crate::answers::answer;
 use crate::answers::no_sheet;
-use crate::cells::clear;
-use crate::cells::no_room;
 use crate::lowered::numerators;
 use arith::Fits;
 use calls::SheetAnswer;
 use modelfile::Model;
 use modelfile::Verdict;
 use plan::tables::make_table;
+use runs::fill::clear;
+use runs::no_room;
 use runs::whole::whole_value;
 
 // What the sheet says of the full model.

@@ -7,25 +7,22 @@ use mathlib.Core.List.{List}
 use native.Mathlib.Omega.{arith}
 use lib.Dec.{ltb, eqb}
 use lib.ListN.{length, getD, take, drop, length-take, length-drop}
-use lib.Seq.{length-take-le}
 use borrow.Author.Tests.{lt-ltb, le-ltb, eq-eqb, ne-eqb}
 use Rattle.sums.specs.Choice.{choose}
 use Rattle.network.specs.Run.{Progress, spend}
-use Rattle.network.proofs.AreaLaws.{cells-some}
 use Rattle.network.proofs.SpendLaws.{went, spend-length}
-use Rattle.modelfile.specs.Network.{treeOf}
 use Rattle.modelfile.specs.declared.Model.{Model}
-use Rattle.calls.specs.Asked.{ask, cellsIn, pairsIn, pairsListed}
+use Rattle.calls.specs.Asked.{ask, pairsListed}
 use Rattle.calls.specs.Advance.{noAdvance, valueAt, told, advanceIn, advance}
 use Rattle.calls.specs.declared.AdvanceAnswer.{AdvanceAnswer}
-use Rattle.calls.proofs.FileLaws.{Fit, fit, take-low}
 use Rattle.calls.proofs.SlotLaws.{listed-pairs}
-use Rattle.plan.specs.Table.{windowsIn, routesIn}
+use Rattle.plan.specs.Table.{windowsIn}
 use Rattle.plan.specs.Lowered.{askedOf}
 use Rattle.plan.specs.Asking.{Prepared, RunFor}
 use Rattle.plan.specs.declared.Asked.{Asked}
 use Rattle.plan.specs.declared.Run.{Run}
 use Rattle.plan.specs.declared.Table.{Table}
+use Rattle.plan.proofs.PreparedLaws.{fits, some-cells}
 use Rattle.joins.specs.Walk.{state, walk}
 use Rattle.joins.specs.declared.Quota.{Quota}
 use Rattle.joins.proofs.WalkLaws.{remains, walk-spend}
@@ -39,7 +36,7 @@ pub value-some : (done all v : ℕ) → (done ≡ all → ⊥) → 0 ≡ choose 
 value-some done all v e = rw (ne-eqb done all e)
 
 -- the quota of an advance
-abbrev quotaAt : ℕ → ℕ → Quota
+abbrev pub quotaAt : ℕ → ℕ → Quota
 quotaAt done budget = record { skip = done; budget = budget; over = false }
 
 module _ (m : Model) (windows : List ℕ) (t : Table) (p : Prepared m windows t) (done budget : ℕ) (area : List ℕ) where
@@ -49,25 +46,16 @@ module _ (m : Model) (windows : List ℕ) (t : Table) (p : Prepared m windows t)
   abbrev pub progress : Progress
   progress = spend (2 ^ 64) (take budget (drop done (pairsListed m ws))) done area
 
-  length-ws : length ws ≡ m .chains
-  length-ws = length-take-le (m .chains) windows (omega (arith, p .windows-long, p .guaranteed .chains-range))
-
-  fits : Fit m ws
-  fits = fit m (p .guaranteed) ws length-ws (take-low (m .chains) windows 15 (p .windows-low))
-
-  cells-one : 1 ≤ t .cells
-  cells-one = omega (arith, p .tabled .cells-are, cells-some (routesIn m) ws (treeOf m))
-
   -- ---- after the walk
 
   module _ {left : Quota} {after : List ℕ} (w : state left after ≡ walk (pairsListed m ws) (state (quotaAt done budget) area)) where
     left-is : state left after ≡ remains (done - length (pairsListed m ws)) (budget + done) progress
     left-is = w ∙ walk-spend (pairsListed m ws) done budget done area
 
-    over-is : left .over ≡ progress .stopped
+    pub over-is : left .over ≡ progress .stopped
     over-is = ap (λ s. s .over) left-is
 
-    area-is : after ≡ progress .area
+    pub area-is : after ≡ progress .area
     area-is = ap (λ s. s .area) left-is
 
     budget-is : left .budget ≡ budget + done - progress .done
@@ -88,7 +76,7 @@ module _ (m : Model) (windows : List ℕ) (t : Table) (p : Prepared m windows t)
         let g = went (2 ^ 64) (take budget (drop done (pairsListed m ws))) done area in
         let l = length-take budget (drop done (pairsListed m ws)) in
         let d = length-drop done (pairsListed m ws) in
-        let n : length (pairsListed m ws) ≡ t .pairs = listed-pairs m ws fits ∙ sym (p .tabled .pairs-are) in
+        let n : length (pairsListed m ws) ≡ t .pairs = listed-pairs m ws (fits p) ∙ sym (p .tabled .pairs-are) in
         omega (arith, done-is, g .number, g .few, l, d, n)
 
     after-long : length after ≡ length area
@@ -107,7 +95,7 @@ module _ (m : Model) (windows : List ℕ) (t : Table) (p : Prepared m windows t)
       advance-high h = rw (room-is m windows t p area e ∙ f, ap (λ n. ltb n done) (sym (p .tabled .pairs-are)) ∙ lt-ltb (t .pairs) done h)
 
       pub value-room : {left : Quota} {after : List ℕ} → state left after ≡ walk (pairsListed m ws) (state (quotaAt done budget) area) → (1 ≤ t .cells) × (t .cells ≤ length after)
-      value-room w = (cells-one, omega (arith, p .tabled .cells-are, room m windows t p area e f, after-long w))
+      value-room w = (some-cells p, omega (arith, p .tabled .cells-are, room m windows t p area e f, after-long w))
 
       module _ (h : done ≤ t .pairs) {left : Quota} {after : List ℕ} (w : state left after ≡ walk (pairsListed m ws) (state (quotaAt done budget) area)) where
         advance-told : advanceIn m ws done budget area ≡ told m ws progress

@@ -14,11 +14,11 @@ use Rattle.calls.specs.Asked.{cellsIn, filledBy}
 use Rattle.calls.specs.Start.{tooLarge}
 use Rattle.plan.specs.Table.{windowsIn, routesIn}
 use Rattle.plan.specs.Steps.{noNode}
-use Rattle.plan.specs.Asking.{Prepared}
+use Rattle.plan.specs.Asking.{Prepared, chainsOf}
 use Rattle.plan.specs.declared.Chains.{Chains}
 use Rattle.plan.specs.declared.Node.{Node}
 use Rattle.plan.specs.declared.Table.{Table}
-use Rattle.runs.specs.Nodes.{nodeCells, put, chainsOf}
+use Rattle.runs.specs.Nodes.{nodeCells, put}
 use Rattle.runs.proofs.FillLaws.{cellsTo, none-first, none-more, some-found, none-at, Filled, filled-first, filled-turn}
 use Rattle.runs.proofs.PreparedLaws.{count-low, filled-is, node-base, node-room}
 

@@ -11,8 +11,6 @@ use Rattle.plan.specs.Table.{row}
 use Rattle.plan.specs.Steps.{Few, spansBy}
 use Rattle.plan.specs.declared.Chains.{Chains}
 use Rattle.plan.specs.declared.Node.{Node}
-use Rattle.plan.specs.declared.Table.{Table}
-use Rattle.modelfile.specs.declared.Model.{Model}
 use Rattle.runs.specs.declared.leaves.Ends.{Ends}
 
 -- a chain's span at a node, by counting; and all of them
@@ -55,7 +53,3 @@ pub record LeafIn (loads : List ℕ) (ch : Chains) (n : Node) : Type 0 where
 -- any node: a join needs nothing more than room
 abbrev pub NodeIn : List ℕ → Chains → Node → Type 0
 NodeIn loads ch n = (n .centre ≡ 0 → ⊥) → LeafIn loads ch n
-
--- the chains of a run
-abbrev pub chainsOf : Model → List ℕ → Table → Chains
-chainsOf m windows t = record { count = m .chains; totals = t .totals; windows = windows }

@@ -1,54 +1,22 @@
-// B of the scope document, whole and with each chain lowered, run in slots of every budget from 1 to 7: the number done and the value told
-// after each slot.
+// The models of the scope document's "Numbers on each side", whole and with each chain lowered: runs in slots of many budgets, runs that
+// begin at each number done, and runs in areas of each length. Told are the number done and the value after each slot, and the cells at the
+// end. What is expected was written by another reading of the scope document (tools/reference.py).
 use calls::AdvanceAnswer;
 use calls::StartAnswer;
 use libc::STDOUT_FILENO;
 
-// B of the scope document.
-const B: [u8; 38] = [
-    1,
-    3,
-    2,
-    2,
-    1,
-    1,
-    2,
-    2,
-    1,
-    3,
-    1,
-    1,
-    0,
-    1,
-    3,
-    1,
-    2,
-    0,
-    2,
-    3,
-    2,
-    1,
-    0,
-    3,
-    3,
-    3,
-    2,
-    0,
-    1,
-    4,
-    1,
-    4,
-    2,
-    5,
-    4,
-    3,
-    5,
-    6,
-];
+// The largest budget, and the largest number done.
+const MOST: u64 = 18446744073709551615;
 
 fn say(n: u64) {
     io::write_all(STDOUT_FILENO, b" ");
     io::print_decimal(STDOUT_FILENO, n);
+}
+
+fn refused(number: u64, place: u64) {
+    io::write_all(STDOUT_FILENO, b" refused");
+    say(number);
+    say(place);
 }
 
 // Tells a slot's answer; the number done.
@@ -61,12 +29,11 @@ fn tell(answer: AdvanceAnswer) -> u64 {
         }
         AdvanceAnswer::Stopped { done } => {
             io::write_all(STDOUT_FILENO, b" stopped");
+            say(done);
             done
         }
         AdvanceAnswer::Refused { number, place } => {
-            io::write_all(STDOUT_FILENO, b" refused");
-            say(number);
-            say(place);
+            refused(number, place);
             0
         }
     }
@@ -75,45 +42,162 @@ fn tell(answer: AdvanceAnswer) -> u64 {
 fn started(answer: StartAnswer) {
     match answer {
         StartAnswer::Started => {
-            io::write_all(STDOUT_FILENO, b"started");
+            io::write_all(STDOUT_FILENO, b" started");
         }
         StartAnswer::Refused { number, place } => {
-            io::write_all(STDOUT_FILENO, b"refused");
-            say(number);
-            say(place);
+            refused(number, place);
         }
     }
 }
 
-// Seven slots of one budget.
-fn slots(b: &[u8], lower: u64, budget: u64, area: &mut [u64]) {
-    started(runs::start(b, lower, area));
-    let mut done: u64 = 0;
+fn cells(area: &[u64]) {
     let mut i: usize = 0;
-    while i < 7 {
-        done = tell(runs::advance::advance(b, lower, done, budget, area));
+    while i < area.len() {
+        say(area[i]);
         i += 1;
     }
+}
+
+// One slot: its budget, and what the advance answers; the number done.
+fn slot(file: &[u8], lower: u64, done: u64, budget: u64, area: &mut [u64]) -> u64 {
+    io::write_all(STDOUT_FILENO, b", +");
+    io::print_decimal(STDOUT_FILENO, budget);
+    tell(runs::advance::advance(file, lower, done, budget, area))
+}
+
+// A start, and a slot of each budget from a number done on.
+fn run(file: &[u8], lower: u64, from: u64, budgets: &[u64], area: &mut [u64]) {
+    io::write_all(STDOUT_FILENO, b"lowered");
+    say(lower);
+    io::write_all(STDOUT_FILENO, b" from");
+    say(from);
+    io::write_all(STDOUT_FILENO, b":");
+    started(runs::start(file, lower, area));
+    let mut done = from;
+    let mut i: usize = 0;
+    while i < budgets.len() {
+        done = slot(file, lower, done, budgets[i], area);
+        i += 1;
+    }
+    io::write_all(STDOUT_FILENO, b"; cells");
+    cells(area);
     io::write_all(STDOUT_FILENO, b"\n");
 }
 
-// The cells hold other numbers first; one more than the model has.
-fn fresh(lower: u64, budget: u64) {
-    let b = B;
-    let mut area = [7u64; 12];
-    slots(&b, lower, budget, &mut area);
+// In cells that hold other numbers first; more of them than any of these models has.
+fn split(file: &[u8], lower: u64, budgets: [u64; 8]) {
+    let mut area = [7u64; 14];
+    run(file, lower, 0, &budgets, &mut area);
 }
 
-fn budgets(lower: u64) {
-    let mut budget: u64 = 1;
-    while budget < 8 {
-        fresh(lower, budget);
-        budget += 1;
+fn splits(file: &[u8], lower: u64) {
+    split(file, lower, [0; 8]);
+    split(file, lower, [1; 8]);
+    split(file, lower, [2; 8]);
+    split(file, lower, [3; 8]);
+    split(file, lower, [7; 8]);
+    split(file, lower, [MOST; 8]);
+    split(file, lower, [1, 0, 0, 0, 0, 0, 0, 0]);
+    split(file, lower, [1, 2, 0, 0, 0, 0, 0, 0]);
+    split(file, lower, [2, 0, 3, 1, 2, 0, 3, 1]);
+    split(file, lower, [0, 1, 0, MOST, 0, 7, MOST, 0]);
+}
+
+fn begun(file: &[u8], lower: u64, from: u64) {
+    let mut area = [7u64; 14];
+    let budgets = [0, MOST];
+    run(file, lower, from, &budgets, &mut area);
+}
+
+// From each number done, up to one above the pairs of any of these models.
+fn each_done(file: &[u8], lower: u64) {
+    let mut from: u64 = 1;
+    while from < 10 {
+        begun(file, lower, from);
+        from += 1;
+    }
+    begun(file, lower, MOST);
+}
+
+// In an area of each length, up to one above the cells of any of these models.
+fn each_area(file: &[u8], lower: u64) {
+    let mut room: usize = 0;
+    while room < 14 {
+        let mut area = [7u64; 14];
+        let budgets = [MOST];
+        run(file, lower, 0, &budgets, &mut area[..room]);
+        room += 1;
     }
 }
 
+// Whole and with each chain lowered: none of these models has more than two chains.
+fn all(name: &[u8], file: &[u8]) {
+    io::write_all(STDOUT_FILENO, name);
+    let mut lower: u64 = 0;
+    while lower < 3 {
+        splits(file, lower);
+        each_done(file, lower);
+        each_area(file, lower);
+        lower += 1;
+    }
+}
+
+fn models_of_more_centres() {
+    all(
+        b"B\n",
+        b"\x01\x03\x02\x02\x01\x01\x02\x02\x01\x03\x01\x01\x00\x01\x03\x01\x02\x00\x02\x03\x02\x01\x00\x03\x03\x03\x02\x00\x01\x04\x01\x04\x02\x05\x04\x03\x05\x06",
+    );
+    all(
+        b"other\n",
+        b"\x01\x03\x02\x02\x01\x01\x02\x02\x01\x03\x01\x01\x00\x01\x03\x01\x02\x00\x02\x03\x02\x01\x00\x03\x03\x03\x02\x00\x01\x04\x02\x04\x03\x05\x04\x01\x05\x06",
+    );
+    all(
+        b"once\n",
+        b"\x01\x02\x01\x02\x01\x03\x03\x01\x01\x00\x05\x04\x01\x04\x02\x05\x06",
+    );
+    all(
+        b"two\n",
+        b"\x01\x02\x01\x02\x01\x02\x03\x01\x01\x00\x01\x03\x02\x01\x00\x02\x04\x01\x04\x02\x05\x06",
+    );
+    all(
+        b"wide\n",
+        b"\x01\x02\x01\x02\x01\x04\x03\x01\x01\xff\xff\x03\x02\x01\x00\x01\x04\x01\x04\x02\x05\x06",
+    );
+    all(
+        b"wider\n",
+        b"\x01\x02\x01\x02\x01\x04\x03\x01\x01\xff\xff\x03\x02\x01\xff\xff\x04\x01\x04\x02\x05\x06",
+    );
+}
+
+fn models_of_one_centre() {
+    all(
+        b"both\n",
+        b"\x01\x01\x02\x02\x01\x02\x02\x02\x01\x03\x01\x01\x00\x02\x03\x01\x02\x00\x03\x04\x01\x06",
+    );
+    all(
+        b"idle\n",
+        b"\x01\x01\x01\x02\x01\x00\x03\x01\x01\x00\x09\x04\x01\x06",
+    );
+    all(
+        b"large, window 4\n",
+        b"\x01\x01\x01\x02\x01\x04\x03\x01\x01\xff\xff\x04\x01\x06",
+    );
+    all(
+        b"large, window 5\n",
+        b"\x01\x01\x01\x02\x01\x05\x03\x01\x01\xff\xff\x04\x01\x06",
+    );
+    all(
+        b"exact\n",
+        b"\x01\x01\x01\x02\x01\x08\x03\x01\x01\x01\x00\x04\x01\x06",
+    );
+    all(
+        b"below\n",
+        b"\x01\x01\x01\x02\x01\x08\x03\x01\x01\x00\xff\x04\x01\x06",
+    );
+}
+
 fn main() {
-    budgets(0);
-    budgets(1);
-    budgets(2);
+    models_of_more_centres();
+    models_of_one_centre();
+    all(b"empty\n", b"");
 }

@@ -1,7 +1,7 @@
 // The pairs of a table's joins, one join after the other, with a skip and a budget.
 ghost use mathlib.Core.Path.{_≡_};
-ghost use Prim.Native.Nat.{ℕ, _+_, _-_, _≤_, _<_};
-ghost use lib.ListN.{length, getD};
+ghost use Prim.Native.Nat.{_≤_};
+ghost use lib.ListN.{length};
 ghost use Rattle.calls.specs.Asked.{cellsIn, pairsListed};
 ghost use Rattle.plan.specs.Asking.{Prepared};
 ghost use Rattle.plan.specs.Table.{windowsIn};
@@ -14,6 +14,7 @@ use modelfile::Model;
 use plan::Chains;
 use plan::Node;
 use plan::Table;
+use plan::tables::back;
 
 // The pairs of a join, from the table's entries of its children and its own.
 fn join_pairs(ch: Chains, left: Node, right: Node, own: Node, area: &mut [u64], q: Quota) -> Quota
@@ -70,13 +71,6 @@ fn node_pairs(ch: Chains, left: Node, right: Node, own: Node, area: &mut [u64], 
         };
     }
     join_pairs(ch, left, right, own, area, q)
-}
-
-// i less n, 0 where that is less than 0.
-fn back(i: usize, n: usize) -> usize
-    ensures { λ r. ⌜ r ≡ i - n ⌝ }
-{
-    if n <= i { i - n } else { 0 }
 }
 
 // The pairs of the table's joins, in order, until the walk ends.

@@ -1,5 +1,6 @@
 -- `run_and_clear` meets its contract: 12 where the area has no room, else the runs, and the model's cells set to 0.
-use mathlib.Core.Path.{sym, _∙_}
+use mathlib.Core.Path.{_∙_}
+use native.Mathlib.Omega.{arith}
 use lib.Seq.{length-take-le}
 use Rattle.ratesheet.proofs.SheetLaws.{cells-full, pairs-full, room-none, room-is, part-fits, room-some}
 use borrow.Author.Needs.{needs}
@@ -22,10 +23,10 @@ run-requires : tie.Need-run-requires
 run-requires c κs = ((c .before .before .before .before .before .before .pre, room-is _ (c .before .before .before .before .before .before .args .area .now) _ (c .before .before .before .make-table .ensures) (c .before .before .no-room .ensures) (c .before .if1 .left)), (cells-full _ (c .before .before .before .before .before .before .args .area .now) _ (c .before .before .before .make-table .ensures), pairs-full _ (c .before .before .before .before .before .before .args .area .now) _ (c .before .before .before .make-table .ensures)))
 
 slice-relend-prefix-clear : tie.Need-slice-relend-prefix-clear
-slice-relend-prefix-clear c = part-fits _ (c .before .before .before .before .before .before .before .before .before .args .area .now) _ (c .before .before .before .before .before .before .make-table .ensures) (c .before .before .before .before .before .no-room .ensures) (c .before .before .before .before .if1 .left) _ (c .before .before .run .ensures .1)
+slice-relend-prefix-clear c = omega (arith, part-fits _ (c .before .before .before .before .before .before .before .before .before .args .area .now) _ (c .before .before .before .before .before .before .make-table .ensures) (c .before .before .before .before .before .no-room .ensures) (c .before .before .before .before .if1 .left) _ (c .before .before .run .ensures .1))
 
 slice-aggregate-clear : tie.Need-slice-aggregate-clear
-slice-aggregate-clear c = sym (length-take-le _ _ (part-fits _ (c .before .before .before .before .before .before .before .before .before .before .args .area .now) _ (c .before .before .before .before .before .before .before .make-table .ensures) (c .before .before .before .before .before .before .no-room .ensures) (c .before .before .before .before .before .if1 .left) _ (c .before .before .before .run .ensures .1)))
+slice-aggregate-clear c = search (needs, length-take-le, part-fits _ (c .before .before .before .before .before .before .before .before .before .before .args .area .now) _ (c .before .before .before .before .before .before .before .make-table .ensures) (c .before .before .before .before .before .before .no-room .ensures) (c .before .before .before .before .before .if1 .left) _ (c .before .before .before .run .ensures .1))
 
 clear-requires : tie.Need-clear-requires
 clear-requires c κs = search needs

@@ -4,7 +4,8 @@ use mathlib.Core.Path.{refl, _∙_}
 use native.Mathlib.Omega.{arith}
 use borrow.Author.Needs.{needs}
 use Rattle.joins.proofs.TurnLaws.{turn-less}
-use Rattle.spends.proofs.TableLaws.{Walked, walked-first, walked-turn, walked-next, walked-last, count-few, node-in}
+use Rattle.plan.proofs.PreparedLaws.{count-few}
+use Rattle.spends.proofs.TableLaws.{Walked, walked-first, walked-turn, walked-next, walked-last, node-in}
 use Rattle.spends.proofs.table_pairs.Statement.{statement}
 use Rattle.spends.proofs.table_pairs.Tie as tie
 
