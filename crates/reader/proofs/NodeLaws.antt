@@ -12,7 +12,6 @@ use Rattle.modelfile.specs.Model.{withLeaf, withJoin}
 use Rattle.modelfile.specs.Records.{more, refuse, chainWithoutCentre, centreMissing, readLeaf, readJoin, readEnd}
 use Rattle.modelfile.specs.declared.Model.{Model}
 use Rattle.modelfile.specs.declared.Step.{Step}
-use Rattle.modelfile.specs.declared.Stepped.{Stepped}
 use Rattle.modelfile.proofs.SoundLaws.{Sound, leaf-room}
 use Rattle.reader.specs.Numbers.{centreOf}
 use Rattle.reader.specs.declared.numbers.Centre.{Centre}
@@ -24,49 +23,49 @@ pub leaf-fits : (rest : List ℕ) (m : Model) {x : CentreOr} {c : Centre} {v : B
     → v ≡ not (eqb (getD (m .placed) (c .n - 1) 0) 0) → v ≡ false → m .count + m .trees ≤ 30
 leaf-fits rest m {c = c} s e f i j = leaf-room m s (c .n) (centre-within _ _ e f (omega arith)) (eqb-true _ _ (not-false _ (sym i ∙ j)))
 
-module _ (rest : List ℕ) (at : ℕ) (m : Model) {r : Stepped} where
+module _ (rest : List ℕ) (at : ℕ) (m : Model) where
   -- kind 4
   module _ {x : CentreOr} (e : x ≡ centreOf (getD rest 1 0) (m .centres)) where
-    pub leaf-centre : x ≡ CentreOr.NoCentre → r ≡ refuse 3 (at + 1) m → r ≡ readLeaf rest at m
+    pub leaf-centre : x ≡ CentreOr.NoCentre → refuse 3 (at + 1) m ≡ readLeaf rest at m
     unfolding readLeaf
-    leaf-centre f w = rw (centre-out _ _ e f) w
+    leaf-centre f = rw (centre-out _ _ e f)
 
     module _ {c : Centre} (f : x ≡ CentreOr.IsCentre c) {u : Bool} (g : u ≡ (eqb (m .count) 0 && chainWithoutCentre m)) where
-      pub leaf-first : u ≡ true → r ≡ refuse 5 at m → r ≡ readLeaf rest at m
+      pub leaf-first : u ≡ true → refuse 5 at m ≡ readLeaf rest at m
       unfolding readLeaf
-      leaf-first h w = rw (centre-in _ _ e f, ← g, h) w
+      leaf-first h = rw (centre-in _ _ e f, ← g, h)
 
       module _ (h : u ≡ false) {v : Bool} (i : v ≡ not (eqb (getD (m .placed) (c .n - 1) 0) 0)) where
-        pub leaf-again : v ≡ true → r ≡ refuse 6 (at + 1) m → r ≡ readLeaf rest at m
+        pub leaf-again : v ≡ true → refuse 6 (at + 1) m ≡ readLeaf rest at m
         unfolding readLeaf
-        leaf-again j w = rw (centre-in _ _ e f, ← g, h, centre-is _ _ e f, ← i, j) w
+        leaf-again j = rw (centre-in _ _ e f, ← g, h, centre-is _ _ e f, ← i, j)
 
-        pub leaf-more : {n : Model} → v ≡ false → n ≡ withLeaf m at (c .n) → r ≡ more n → r ≡ readLeaf rest at m
+        pub leaf-more : v ≡ false → more (withLeaf m at (c .n)) ≡ readLeaf rest at m
         unfolding readLeaf
-        leaf-more j v w = rw (centre-in _ _ e f, ← g, h, centre-is _ _ e f, ← v, ← i, j) w
+        leaf-more j = rw (centre-in _ _ e f, ← g, h, centre-is _ _ e f, ← i, j)
 
   -- kind 5
-  pub join-few : m .trees < 2 → r ≡ refuse 7 at m → r ≡ readJoin rest at m
+  pub join-few : m .trees < 2 → refuse 7 at m ≡ readJoin rest at m
   unfolding readJoin
-  join-few h w = rw (lt-ltb _ _ h) w
+  join-few h = rw (lt-ltb _ _ h)
 
-  pub join-more : {n : Model} → 2 ≤ m .trees → n ≡ withJoin m → r ≡ more n → r ≡ readJoin rest at m
+  pub join-more : 2 ≤ m .trees → more (withJoin m) ≡ readJoin rest at m
   unfolding readJoin
-  join-more h v w = rw (le-ltb _ _ h, ← v) w
+  join-more h = rw (le-ltb _ _ h)
 
   -- kind 6
-  pub end-trees : (m .trees ≡ 1 → ⊥) → r ≡ refuse 8 at m → r ≡ readEnd rest at m
+  pub end-trees : (m .trees ≡ 1 → ⊥) → refuse 8 at m ≡ readEnd rest at m
   unfolding readEnd
-  end-trees h w = rw (ne-eqb _ _ h) w
+  end-trees h = rw (ne-eqb _ _ h)
 
   module _ (h : m .trees ≡ 1) {u : Bool} (e : u ≡ centreMissing m) where
-    pub end-missing : u ≡ true → r ≡ refuse 8 at m → r ≡ readEnd rest at m
+    pub end-missing : u ≡ true → refuse 8 at m ≡ readEnd rest at m
     unfolding readEnd
-    end-missing t w = rw (eq-eqb _ _ h, ← e, t) w
+    end-missing t = rw (eq-eqb _ _ h, ← e, t)
 
-    pub end-after : u ≡ false → 1 < length rest → r ≡ refuse 9 (at + 1) m → r ≡ readEnd rest at m
+    pub end-after : u ≡ false → 1 < length rest → refuse 9 (at + 1) m ≡ readEnd rest at m
     unfolding readEnd
-    end-after t l w = rw (eq-eqb _ _ h, ← e, t, lt-ltb _ _ l) w
+    end-after t l = rw (eq-eqb _ _ h, ← e, t, lt-ltb _ _ l)
 
 pub end-last : (rest : List ℕ) (at : ℕ) (m : Model) {u : Bool} → m .trees ≡ 1 → u ≡ centreMissing m → u ≡ false → length rest ≤ 1
     → record { step = Step.Last; model = m } ≡ readEnd rest at m

@@ -1,17 +1,40 @@
 // The model file of document 01: from bytes to a model or a refusal 1 to 9, and the tree part of a file.
 ghost use mathlib.Core.Path.{_≡_};
-ghost use Rattle.modelfile.specs.File.{readFile, treePart};
+ghost use Rattle.modelfile.specs.File.{refused, readFile, treePart};
+ghost use Rattle.modelfile.specs.declared.Verdict.{Verdict};
 use crate::model::empty_model;
+use crate::model::first_place;
+use crate::model::slot_of;
+use crate::numbers::Centre;
 use crate::numbers::wide;
+use crate::records::Said;
 use crate::records::body_length;
 use crate::records::read_record;
+use modelfile::Model;
 use modelfile::Reading;
-use modelfile::Step;
 use modelfile::Verdict;
 
 mod model; // model.rt: the model with one record more, and tests of it
 pub mod numbers; // numbers.rt: centre and chain numbers with their ends
 pub mod records; // records.rt: one record
+
+fn accepted(m: Model) -> Reading
+    ensures { λ r. ⌜ r ≡ record { verdict = Verdict.Accepted; model = m } ⌝ }
+{
+    Reading {
+        verdict: Verdict::Accepted,
+        model: m,
+    }
+}
+
+fn refused(number: usize, place: usize, m: Model) -> Reading
+    ensures { λ r. ⌜ r ≡ refused number place m ⌝ }
+{
+    Reading {
+        verdict: Verdict::Refused { number, place },
+        model: m,
+    }
+}
 
 // The loop lends a record the bytes from its kind byte on, so that a record sees constant indices only.
 pub fn read_file(file: &[u8]) -> Reading
@@ -20,35 +43,46 @@ pub fn read_file(file: &[u8]) -> Reading
     let mut m = empty_model();
     let mut at = 0;
     while at < file.len() {
-        let r = read_record(&file[at..], at, m);
-        let step = r.step;
-        let next = r.model;
-        match step {
-            Step::More => {
-                m = next;
-                at += 1 + body_length(wide(file[at]));
+        let next = at + 1 + body_length(wide(file[at]));
+        match read_record(&file[at..], at, m) {
+            Said::Size(centres, chains) => {
+                m.centres = centres.n;
+                m.chains = chains.n;
+                at = next;
             }
-            Step::Last => {
-                return Reading {
-                    verdict: Verdict::Accepted,
-                    model: next,
-                };
+            Said::Window(window) => {
+                let i = m.given;
+                m.windows[i] = window;
+                m.given = i + 1;
+                at = next;
             }
-            Step::Refused { number, place } => {
-                return Reading {
-                    verdict: Verdict::Refused { number, place },
-                    model: next,
-                };
+            Said::Load(centre, chain, load) => {
+                let i = slot_of(centre, chain);
+                m.loads[i] = load as u64;
+                m.passed = i + 1;
+                at = next;
             }
+            Said::Leaf(centre) => {
+                let i = m.count;
+                m.first = first_place(i, at, m.first);
+                m.nodes[i] = centre.n;
+                m.count = i + 1;
+                m.trees = m.trees + 1;
+                m.placed[centre.n - Centre::FIRST] = 1;
+                at = next;
+            }
+            Said::Join => {
+                let i = m.count;
+                m.nodes[i] = 0;
+                m.count = i + 1;
+                m.trees = m.trees - 1;
+                at = next;
+            }
+            Said::Last => return accepted(m),
+            Said::Refused(number, place) => return refused(number, place, m),
         }
     }
-    Reading {
-        verdict: Verdict::Refused {
-            number: 1,
-            place: at,
-        },
-        model: m,
-    }
+    refused(1, at, m)
 }
 
 // The caller's own bytes, from the first leaf up to the end record; the empty part where the file is refused.

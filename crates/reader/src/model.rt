@@ -1,12 +1,12 @@
-// The model as far as it is read: with one record more, and what refusals 5, 6 and 8 look at.
+// The model as far as it is read: where a record notes something, and what refusals 5, 6 and 8 look at.
 ghost use mathlib.Core.Path.{_≡_};
 ghost use mathlib.Core.Bool.{_&&_, not};
-ghost use Prim.Native.Nat.{_≤_, _<_, _+_, _-_};
+ghost use Prim.Native.Nat.{_≤_, _<_, _-_};
 ghost use lib.Dec.{eqb};
 ghost use lib.ListN.{getD};
 ghost use Rattle.sums.specs.Lists.{from, some};
 ghost use Rattle.modelfile.specs.Ends.{lastCentre, lastChain};
-ghost use Rattle.modelfile.specs.Model.{emptyModel, withSize, withWindow, slot, withLoad, firstPlace, withLeaf, withJoin};
+ghost use Rattle.modelfile.specs.Model.{emptyModel, slot, firstPlace};
 ghost use Rattle.modelfile.specs.Records.{loaded, chainWithoutCentre, centreMissing};
 ghost use Rattle.modelfile.proofs.StepLaws.{Within};
 use crate::numbers::Centre;
@@ -31,26 +31,6 @@ pub fn empty_model() -> Model
     }
 }
 
-pub fn with_size(m: Model, centres: Centre, chains: Chain) -> Model
-    ensures { λ r. ⌜ r ≡ withSize m (centres .n) (chains .n) ⌝ }
-{
-    let mut next = m;
-    next.centres = centres.n;
-    next.chains = chains.n;
-    next
-}
-
-pub fn with_window(m: Model, window: usize) -> Model
-    requires { ⌜ m .given < 8 ⌝ }
-    ensures { λ r. ⌜ r ≡ withWindow m window ⌝ }
-{
-    let mut next = m;
-    let i = next.given;
-    next.windows[i] = window;
-    next.given = i + 1;
-    next
-}
-
 pub fn slot_of(centre: Centre, chain: Chain) -> usize
     requires { ⌜ Within 1 lastCentre (centre .n) × Within 1 lastChain (chain .n) ⌝ }
     ensures { λ r. ⌜ r ≡ slot (centre .n) (chain .n) ⌝ }
@@ -58,50 +38,13 @@ pub fn slot_of(centre: Centre, chain: Chain) -> usize
     (centre.n - Centre::FIRST) * Chain::LAST + (chain.n - Chain::FIRST)
 }
 
-pub fn with_load(m: Model, centre: Centre, chain: Chain, load: usize) -> Model
-    requires { ⌜ Within 1 lastCentre (centre .n) × Within 1 lastChain (chain .n) ⌝ }
-    ensures { λ r. ⌜ r ≡ withLoad m (centre .n) (chain .n) load ⌝ }
-{
-    let mut next = m;
-    let i = slot_of(centre, chain);
-    next.loads[i] = load as u64;
-    next.passed = i + 1;
-    next
-}
-
-fn first_place(count: usize, at: usize, first: usize) -> usize
+pub fn first_place(count: usize, at: usize, first: usize) -> usize
     ensures { λ r. ⌜ r ≡ firstPlace (eqb count 0) at first ⌝ }
 {
     if count == 0 {
         return at;
     }
     first
-}
-
-pub fn with_leaf(m: Model, at: usize, centre: Centre) -> Model
-    requires { ⌜ Within 1 lastCentre (centre .n) × (m .count + m .trees ≤ 30) ⌝ }
-    ensures { λ r. ⌜ r ≡ withLeaf m at (centre .n) ⌝ }
-{
-    let mut next = m;
-    let i = next.count;
-    next.first = first_place(i, at, next.first);
-    next.nodes[i] = centre.n;
-    next.count = i + 1;
-    next.trees = next.trees + 1;
-    next.placed[centre.n - Centre::FIRST] = 1;
-    next
-}
-
-pub fn with_join(m: Model) -> Model
-    requires { ⌜ (m .count ≤ 30) × (2 ≤ m .trees) ⌝ }
-    ensures { λ r. ⌜ r ≡ withJoin m ⌝ }
-{
-    let mut next = m;
-    let i = next.count;
-    next.nodes[i] = 0;
-    next.count = i + 1;
-    next.trees = next.trees - 1;
-    next
 }
 
 // Whether chain k + 1 has a centre.
