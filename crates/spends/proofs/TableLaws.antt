@@ -1,6 +1,6 @@
 -- A model's table, node by node: each entry is that of a node in postorder, a join's children are the entries the code finds, and their
 -- cells lie in the area. So after i nodes the walk has gone over the pairs of the first i.
-use Prim.Native.Nat.{ℕ, zero, suc, _+_, _-_, _≤_, _<_}
+use Prim.Native.Nat.{ℕ, _+_, _-_, _≤_, _<_}
 use mathlib.Core.Path.{_≡_, refl, sym, ap, subst, _∙_}
 use mathlib.Core.Bool.{Bool, true, false}
 use mathlib.Core.List.{List, [], _∷_, _++_, map, flatMap, append-nil, Memᴰ·append-left, List·Permᴰ, List·Memᴰ, List·Memᴰ·head, List·Memᴰ·append-cases, List·Memᴰ·eq-of-singleton}

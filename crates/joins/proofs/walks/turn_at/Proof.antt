@@ -1,5 +1,4 @@
 -- `turn_at` meets its contract: what it requires is that its numbers fit.
-use mathlib.Core.Path.{_≡_}
 use borrow.Author.Needs.{needs}
 use Rattle.joins.proofs.walks.turn_at.Statement.{statement}
 use Rattle.joins.proofs.walks.turn_at.Tie as tie
