@@ -14,9 +14,10 @@ use lib.Seq.{take-all, set-set, set-getD, set-out}
 use Rattle.sums.specs.Lists.{from}
 use Rattle.network.specs.Pairs.{Pair}
 use Rattle.joins.specs.Walk.{State, walk, ended, nextTurn}
-use Rattle.joins.specs.Loops.{cellPairs, loopThen, firstLoop, loopPairs, At, Numbers, times, Sound}
+use Rattle.joins.specs.Loops.{cellPairs, loopThen, firstLoop, loopPairs, At, Numbers, times, turnAt, Sound}
 use Rattle.joins.specs.declared.Join.{Join}
 use Rattle.joins.specs.declared.Loop.{Loop}
+use Rattle.joins.specs.declared.Turn.{Turn}
 use Rattle.joins.proofs.TurnLaws.{ahead, ahead-all, Walked, walk-again, walk-ends}
 
 pub times-in : (p len count n : ℕ) → p < len → count * n ≡ times (ltb p len) count n
@@ -29,31 +30,31 @@ times-out p len count n h = rw (le-ltb p len h)
 
 -- ---- a turn of a loop
 
-module _ (join : Join) (n p a b c : ℕ) (loops rows : List ℕ) (l r t : ℕ) where
+module _ (join : Join) (one : Loop) (loops rows : List ℕ) (l r t : ℕ) where
   pub loopTurn : ℕ → List Pair
-  loopTurn i = loopPairs join loops (set rows p (i + 1)) (l + i * a) (r + i * b) (t + i * c)
+  loopTurn i = loopPairs join loops (set rows (one .row) (i + 1)) (l + i * one .left) (r + i * one .right) (t + i * one .own)
 
-  pub loop-again : (s₀ s u : State) (i k : ℕ) → Walked loopTurn n s₀ s i → i < n → (rows' : List ℕ) → rows' ≡ set rows p (i + 1) → u ≡ walk (loopPairs join loops rows' (l + i * a) (r + i * b) (t + i * c)) s
-      → k ≡ nextTurn (ended (u .over) (u .skip) (u .budget)) i n → Walked loopTurn n s₀ u k
+  pub loop-again : (s₀ s u : State) (i k : ℕ) → Walked loopTurn (one .count) s₀ s i → i < one .count → (rows' : List ℕ) → rows' ≡ set rows (one .row) (i + 1) → (len count : ℕ) (at : Turn) → at ≡ turnAt one len l r t count i
+      → u ≡ walk (loopPairs join loops rows' (at .left) (at .right) (at .own)) s → k ≡ nextTurn (ended (u .over) (u .skip) (u .budget)) i (one .count) → Walked loopTurn (one .count) s₀ u k
   unfolding loopTurn
-  loop-again s₀ s u i k w h rows' er e next = walk-again loopTurn n s₀ s u i k w h (e ∙ ap (λ x. walk (loopPairs join loops x (l + i * a) (r + i * b) (t + i * c)) s) er) next
+  loop-again s₀ s u i k w h rows' er len count at ea e next = walk-again loopTurn (one .count) s₀ s u i k w h (e ∙ (λ j. walk (loopPairs join loops (er j) (ea j .left) (ea j .right) (ea j .own)) s)) next
 
-  loop-turns : loopPairs join (n ∷ p ∷ a ∷ b ∷ c ∷ loops) rows l r t ≡ ahead loopTurn n 0
+  loop-turns : loopPairs join (loopThen one loops) rows l r t ≡ ahead loopTurn (one .count) 0
   unfolding loopPairs loopTurn
-  loop-turns = ahead-all loopTurn n
+  loop-turns = ahead-all loopTurn (one .count)
 
-  pub loop-ends : (s₀ s : State) (i : ℕ) → Walked loopTurn n s₀ s i → n ≤ i → (all : List ℕ) → all ≡ n ∷ p ∷ a ∷ b ∷ c ∷ loops → s ≡ walk (loopPairs join all rows l r t) s₀
-  loop-ends s₀ s i w h all e = walk-ends loopTurn n s₀ s i w h ∙ ap (λ ps. walk ps s₀) (sym loop-turns ∙ ap (λ x. loopPairs join x rows l r t) (sym e))
+  pub loop-ends : (s₀ s : State) (i : ℕ) → Walked loopTurn (one .count) s₀ s i → one .count ≤ i → (all : List ℕ) → all ≡ loopThen one loops → s ≡ walk (loopPairs join all rows l r t) s₀
+  loop-ends s₀ s i w h all e = walk-ends loopTurn (one .count) s₀ s i w h ∙ ap (λ ps. walk ps s₀) (sym loop-turns ∙ ap (λ x. loopPairs join x rows l r t) (sym e))
 
-module _ (size : ℕ) (join : Join) (n p a b c : ℕ) (loops rows : List ℕ) (l r t count : ℕ) (s : Sound size join (n ∷ p ∷ a ∷ b ∷ c ∷ loops) rows l r t count) (i : ℕ) (h : i < n) where
-  pub turn-numbers : Numbers (l + i * a) (r + i * b) (t + i * c) (times (ltb p (length rows)) count (i + 1))
+-- for the lengths of the area and the rows, and the rows, that the code has at hand
+module _ (size : ℕ) (join : Join) (one : Loop) (loops rows : List ℕ) (l r t count : ℕ) (s : Sound size join (loopThen one loops) rows l r t count) (i : ℕ) (h : i < one .count) (len : ℕ) (el : len ≡ length rows) where
+  pub turn-numbers : Numbers (turnAt one len l r t count i)
   unfolding Sound
-  turn-numbers = s i h .0
+  turn-numbers = rw el (s i h .0)
 
-  -- the same for the length of the area, the rows and the number of pairs that the code has at hand
-  pub turn-sound : (size' count' : ℕ) (rows' : List ℕ) → size' ≡ size → rows' ≡ set rows p (i + 1) → count' ≡ times (ltb p (length rows)) count (i + 1) → Sound size' join loops rows' (l + i * a) (r + i * b) (t + i * c) count'
+  pub turn-sound : (size' : ℕ) (rows' : List ℕ) (at : Turn) → size' ≡ size → rows' ≡ set rows (one .row) (i + 1) → at ≡ turnAt one len l r t count i → Sound size' join loops rows' (at .left) (at .right) (at .own) (at .count)
   unfolding Sound
-  turn-sound size' count' rows' es er ec = rw (es, er, ec) (s i h .1)
+  turn-sound size' rows' at es er ea = rw (es, er, ea, el) (s i h .1)
 
 -- ---- the last loop's turn is one cell
 
@@ -61,11 +62,11 @@ pub last-at : (size : ℕ) (join : Join) (rows : List ℕ) (l r t count : ℕ) �
 unfolding Sound
 last-at size join rows l r t count s = s
 
-module _ (join : Join) (n p a b c : ℕ) (rows : List ℕ) (l r t : ℕ) where
-  pub last-again : (s₀ s u : State) (i k : ℕ) → Walked (loopTurn join n p a b c [] rows l r t) n s₀ s i → i < n → (rows' : List ℕ) → rows' ≡ set rows p (i + 1)
-      → u ≡ walk (cellPairs join rows' (l + i * a) (r + i * b) (t + i * c)) s → k ≡ nextTurn (ended (u .over) (u .skip) (u .budget)) i n → Walked (loopTurn join n p a b c [] rows l r t) n s₀ u k
+module _ (join : Join) (one : Loop) (rows : List ℕ) (l r t : ℕ) where
+  pub last-again : (s₀ s u : State) (i k : ℕ) → Walked (loopTurn join one [] rows l r t) (one .count) s₀ s i → i < one .count → (rows' : List ℕ) → rows' ≡ set rows (one .row) (i + 1) → (len count : ℕ) (at : Turn) → at ≡ turnAt one len l r t count i
+      → u ≡ walk (cellPairs join rows' (at .left) (at .right) (at .own)) s → k ≡ nextTurn (ended (u .over) (u .skip) (u .budget)) i (one .count) → Walked (loopTurn join one [] rows l r t) (one .count) s₀ u k
   unfolding loopPairs
-  last-again s₀ s u i k w h rows' er e next = loop-again join n p a b c [] rows l r t s₀ s u i k w h rows' er e next
+  last-again s₀ s u i k w h rows' er len count at ea e next = loop-again join one [] rows l r t s₀ s u i k w h rows' er len count at ea e next
 
 -- ---- the place that a loop writes, and restores
 
@@ -123,7 +124,7 @@ module _ (size : ℕ) (join : Join) (rows : List ℕ) (l r t count : ℕ) where
       let w = at .inside .reads in
       let f = sym (times-out (length rows) (length rows) count (i + 1) (le-refl (length rows))) in
       let g = set-out rows (length rows) (i + 1) (le-refl (length rows)) in (
-        rw (one-of-one i h l, one-of-one i h r, one-of-one i h t, f) (record { l-low = omega (arith, w .left-reach, w .left-to); r-low = omega (arith, w .right-reach, w .right-to); t-low = omega (arith, at .inside .own-at, at .inside .own-to); count-low = hc }),
+        rw (one-of-one i h l, one-of-one i h r, one-of-one i h t, f) (record { left-low = omega (arith, w .left-reach, w .left-to); right-low = omega (arith, w .right-reach, w .right-to); own-low = omega (arith, at .inside .own-at, at .inside .own-to); count-low = hc }),
         rw (one-of-one i h l, one-of-one i h r, one-of-one i h t, f, g) at,
       )
 

@@ -206,7 +206,7 @@ module _ (n : ℕ) (join : Join) (parts : Parts n join) where
       let er : r + i * 0 ≡ r = omega arith in
       let wi : w * (i + 1) ≡ pairsIn gs * (i + 1) * ended cs = ap (λ z. z * (i + 1)) (k .counted) ∙ omega arith in
       let ht : join .own .from + (t + i * c + moreOwn cs) < join .own .to = omega (arith, k .own-last) in (
-        rw (ew, el, er) (record { l-low = low-left l (lastLeft gs + (x * a + moreLeft cs)) (omega (arith, k .left-last)); r-low = low-right r (lastRight gs + (x * b + moreRight cs)) (omega (arith, k .right-last)); t-low = low-own (t + i * c) (moreOwn cs) ht; count-low = factor-low (w * (i + 1)) (most cs) (most-pos cs) hw }),
+        rw (ew, el, er) (record { left-low = low-left l (lastLeft gs + (x * a + moreLeft cs)) (omega (arith, k .left-last)); right-low = low-right r (lastRight gs + (x * b + moreRight cs)) (omega (arith, k .right-last)); own-low = low-own (t + i * c) (moreOwn cs) ht; count-low = factor-low (w * (i + 1)) (most cs) (most-pos cs) hw }),
         move (l + i * 0) l (r + i * 0) r (t + i * c) (times (ltb at (length g)) w (i + 1)) (w * (i + 1)) (ap (λ z. loops z cs) (row-length gs (i + 1) a b)) (set-append-seam (flatRows gs) 1 (a ∷ b ∷ rows cs) (i + 1) ∙ row-list gs (i + 1) a b (rows cs)) el er ew
             (chains-sound cs (gs ++ ((i + 1, a, b) ∷ [])) l r (t + i * c) (w * (i + 1)) (row-settled gs cs l r (t + i * c) (w * (i + 1)) i x a b le (k .left-last) (k .right-last) ht wi hw (k .few))),
       )
@@ -225,7 +225,7 @@ module _ (n : ℕ) (join : Join) (parts : Parts n join) where
       let hl : join .left .from + (l + i * a + lastLeft gs + moreLeft cs) < join .left .to = omega (arith, k .left-last) in
       let hr : join .right .from + (r + i * b + lastRight gs + moreRight cs) < join .right .to = omega (arith, k .right-last) in
       let ht : join .own .from + (t + i * c + moreOwn cs) < join .own .to = omega (arith, k .own-last) in (
-        rw ew (record { l-low = low-left (l + i * a) (lastLeft gs + moreLeft cs) (omega (arith, hl)); r-low = low-right (r + i * b) (lastRight gs + moreRight cs) (omega (arith, hr)); t-low = low-own (t + i * c) (moreOwn cs) ht; count-low = factor-low w (most cs) (most-pos cs) (k .count-low) }),
+        rw ew (record { left-low = low-left (l + i * a) (lastLeft gs + moreLeft cs) (omega (arith, hl)); right-low = low-right (r + i * b) (lastRight gs + moreRight cs) (omega (arith, hr)); own-low = low-own (t + i * c) (moreOwn cs) ht; count-low = factor-low w (most cs) (most-pos cs) (k .count-low) }),
         move {h = loops (length (flatRows gs)) cs} (l + i * a) (l + i * a) (r + i * b) (r + i * b) (t + i * c) (times (ltb unshared (length g)) w (i + 1)) w refl (set-out g unshared (i + 1) len) refl refl ew
             (chains-sound cs gs (l + i * a) (r + i * b) (t + i * c) w (record { left-last = hl; right-last = hr; own-last = ht; counted = k .counted; count-low = k .count-low; few = k .few })),
       )

@@ -12,6 +12,7 @@ use Rattle.network.specs.Pairs.{Pair}
 use Rattle.cellsums.specs.Places.{places, Within}
 use Rattle.joins.specs.declared.Join.{Join}
 use Rattle.joins.specs.declared.Loop.{Loop}
+use Rattle.joins.specs.declared.Turn.{Turn}
 
 -- a pair of places in the children as cell numbers, for the result cell at a place of the join's own cells
 unfoldable pub pairAt : Join → ℕ → ℕ × ℕ → Pair
@@ -57,16 +58,20 @@ pub record At (n : ℕ) (join : Join) (rows : List ℕ) (l r t count : ℕ) : Ty
   pub inside : Inside n join rows l r t
   pub counted : count ≡ length (places rows l r)
 
-pub record Numbers (l r t count : ℕ) : Type 0 where
-  pub l-low : l < 2 ^ 64
-  pub r-low : r < 2 ^ 64
-  pub t-low : t < 2 ^ 64
-  pub count-low : count < 2 ^ 64
-
 -- a cell's number of pairs, once a chain's i is chosen: i + 1 times as many where the chain has a row
 unfoldable pub times : Bool → ℕ → ℕ → ℕ
 times true count n = count * n
 times false count n = count
+
+-- a loop's i-th turn, from where the loop begins and the number of pairs there, if there are `len` numbers of rows
+abbrev pub turnAt : Loop → ℕ → ℕ → ℕ → ℕ → ℕ → ℕ → Turn
+turnAt one len l r t count i = record { left = l + i * one .left; right = r + i * one .right; own = t + i * one .own; count = times (ltb (one .row) len) count (i + 1) }
+
+pub record Numbers (x : Turn) : Type 0 where
+  pub left-low : x .left < 2 ^ 64
+  pub right-low : x .right < 2 ^ 64
+  pub own-low : x .own < 2 ^ 64
+  pub count-low : x .count < 2 ^ 64
 
 -- every cell that the loops come to lies inside, and its number of pairs is right
 unfoldable pub Sound : ℕ → Join → List ℕ → List ℕ → ℕ → ℕ → ℕ → ℕ → Type 0
@@ -77,5 +82,5 @@ Sound n join (m ∷ p ∷ a ∷ []) rows l r t count = At n join rows l r t coun
 Sound n join (m ∷ p ∷ a ∷ b ∷ []) rows l r t count = At n join rows l r t count
 Sound n join (m ∷ p ∷ a ∷ b ∷ c ∷ loops) rows l r t count =
     (i : ℕ) → i < m →
-    Numbers (l + i * a) (r + i * b) (t + i * c) (times (ltb p (length rows)) count (i + 1))
+    Numbers (record { left = l + i * a; right = r + i * b; own = t + i * c; count = times (ltb p (length rows)) count (i + 1) })
     × Sound n join loops (set rows p (i + 1)) (l + i * a) (r + i * b) (t + i * c) (times (ltb p (length rows)) count (i + 1))

@@ -26,6 +26,14 @@ pub struct Loop {
     pub own: usize,
 }
 
+// Where a turn of a loop begins: the places in the children's cells and the join's own, and how many pairs its first cell has.
+pub struct Turn {
+    pub left: usize,
+    pub right: usize,
+    pub own: usize,
+    pub count: usize,
+}
+
 // How many pairs are still to be skipped and to be added, and whether a pair ended the walk.
 pub struct Quota {
     pub skip: usize,

@@ -2,6 +2,7 @@
 use crate::Join;
 use crate::Loop;
 use crate::Quota;
+use crate::Turn;
 use crate::next;
 use arith::Fits;
 use cellsums::Part;
@@ -12,7 +13,7 @@ ghost use lib.Dec.{ltb};
 ghost use lib.ListN.{length, getD, set};
 ghost use Rattle.cellsums.specs.Places.{places};
 ghost use Rattle.joins.specs.Walk.{state, walk};
-ghost use Rattle.joins.specs.Loops.{cellPairs, loopThen, firstLoop, loopPairs, Inside, times as timesOf, Sound};
+ghost use Rattle.joins.specs.Loops.{cellPairs, loopThen, firstLoop, loopPairs, Inside, times as timesOf, turnAt, Numbers, Sound};
 
 fn put(own: &mut [u64], i: usize, v: u64)
     requires { ⌜ i < length (now own) ⌝ }
@@ -215,6 +216,20 @@ fn times(count: usize, p: usize, len: usize, n: usize) -> usize
     if p < len { count * n } else { count }
 }
 
+// A loop's i-th turn.
+fn turn_at(one: Loop, len: usize, l: usize, r: usize, t: usize, count: usize, i: usize) -> Turn
+    requires { ⌜ i < one .count ⌝ }
+    requires { ⌜ Numbers (turnAt one len l r t count i) ⌝ }
+    ensures { λ x. ⌜ x ≡ turnAt one len l r t count i ⌝ }
+{
+    Turn {
+        left: l + i * one.left,
+        right: r + i * one.right,
+        own: t + i * one.own,
+        count: times(count, one.row, len, i + 1),
+    }
+}
+
 // The last loop. Its row's count is written for each i, and restored.
 fn walk_last(
     area: &mut [u64],
@@ -232,25 +247,14 @@ fn walk_last(
 {
     let n = last.count;
     let p = last.row;
-    let a = last.left;
-    let b = last.right;
-    let c = last.own;
     let len = rows.len();
     let old = value_at(rows, p);
     let mut e = q;
     let mut i: usize = 0;
     while i < n {
         set_at(rows, p, i + 1);
-        e = walk_cell(
-            area,
-            join,
-            rows,
-            l + i * a,
-            r + i * b,
-            t + i * c,
-            times(count, p, len, i + 1),
-            e,
-        );
+        let at = turn_at(last, len, l, r, t, count, i);
+        e = walk_cell(area, join, rows, at.left, at.right, at.own, at.count, e);
         i = next(i, n, e.over, e.skip, e.budget);
     }
     set_at(rows, p, old);
@@ -306,15 +310,16 @@ pub fn walk_loops(
     let mut i: usize = 0;
     while i < n {
         set_at(rows, p, i + 1);
+        let at = turn_at(one, len, l, r, t, count, i);
         e = walk_loops(
             area,
             join,
             &loops[5..],
             rows,
-            l + i * one.left,
-            r + i * one.right,
-            t + i * one.own,
-            times(count, p, len, i + 1),
+            at.left,
+            at.right,
+            at.own,
+            at.count,
             e,
         );
         i = next(i, n, e.over, e.skip, e.budget);

@@ -4,7 +4,7 @@ use mathlib.Core.Path.{_≡_, sym, ap, subst, _∙_}
 use mathlib.Core.List.{List, _++_}
 use native.Mathlib.Nat.{sub-zero}
 use native.Mathlib.Omega.{arith}
-use lib.ListN.{length, getD, take, replicate, length-append, length-replicate}
+use lib.ListN.{length, take, replicate, length-append, length-replicate}
 use lib.Seq.{take-append-seam}
 use Rattle.network.specs.Centre.{Route}
 use Rattle.network.specs.Coverage.{Tree, join}

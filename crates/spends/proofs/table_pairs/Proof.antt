@@ -1,6 +1,6 @@
 -- `table_pairs` meets its contract: after i nodes the walk has gone over the pairs of the first i.
 use Prim.Native.Nat.{_-_}
-use mathlib.Core.Path.{refl, _∙_}
+use mathlib.Core.Path.{refl}
 use native.Mathlib.Omega.{arith}
 use borrow.Author.Needs.{needs}
 use Rattle.joins.proofs.TurnLaws.{turn-less}

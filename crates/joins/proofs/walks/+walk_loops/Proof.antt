@@ -1,11 +1,10 @@
 -- `walk_loops` meets its contract, by recursion on the loops that are left: one turn of the first loop is the others at other places.
 use Prim.Native.Nat.{ℕ, _+_, _-_, _^_, _≤_, _<_}
 use mathlib.Core.Path.{_≡_, refl, _∙_}
-use mathlib.Core.List.{_∷_}
 use native.Mathlib.Omega.{arith}
 use lib.ListN.{length, getD, set, take, drop, length-take, length-drop}
 use Rattle.joins.specs.Walk.{state}
-use Rattle.joins.specs.Loops.{Sound}
+use Rattle.joins.specs.Loops.{loopThen, Sound}
 use Rattle.joins.proofs.TurnLaws.{Walked, walk-begins, turn-less}
 use Rattle.joins.proofs.LoopLaws.{loopTurn, loop-again, loop-ends, turn-numbers, turn-sound, write-again, write-length, restored, sound-as, first-is, few-sound, few-pairs}
 use borrow.Author.Needs.{needs}
@@ -17,7 +16,7 @@ use Rattle.joins.proofs.walks.+walk_loops.Lts-walk_loops as walk-loops-
 use Rattle.joins.proofs.next.Reads as next-reads
 use Rattle.joins.proofs.walks.first_loop.Reads as first-loop-reads
 use Rattle.joins.proofs.walks.set_at.Reads as set-at-reads
-use Rattle.joins.proofs.walks.times.Reads as times-reads
+use Rattle.joins.proofs.walks.turn_at.Reads as turn-at-reads
 use Rattle.joins.proofs.walks.value_at.Reads as value-at-reads
 use Rattle.joins.proofs.walks.walk_last.Reads as walk-last-reads
 use Rattle.joins.proofs.walks.+walk_loops.{statement}
@@ -36,14 +35,14 @@ walk-loops-below t =
 
 -- what the calls ask and tell
 abbrev calls : ℕ → walk-loops-lts.Claims
-calls t = (first-loop-reads.Asked, first-loop-reads.Learnt, walk-last-reads.Asked, walk-last-reads.Learnt, value-at-reads.Asked, value-at-reads.Learnt, set-at-reads.Asked, set-at-reads.Learnt, times-reads.Asked, times-reads.Learnt, walk-loops-below t, walk-loops.Post, next-reads.Asked, next-reads.Learnt)
+calls t = (first-loop-reads.Asked, first-loop-reads.Learnt, walk-last-reads.Asked, walk-last-reads.Learnt, value-at-reads.Asked, value-at-reads.Learnt, set-at-reads.Asked, set-at-reads.Learnt, turn-at-reads.Asked, turn-at-reads.Learnt, walk-loops-below t, walk-loops.Post, next-reads.Asked, next-reads.Learnt)
 
 abbrev walk-loops-Inv-loop : walk-loops-lts.InvT-loop
 walk-loops-Inv-loop area₀ join loops rows₀ l r t count len one n p old e₀ i₀ area rows e i = ((5 ≤ length loops) × (length area ≡ length area₀) × (length rows ≡ length rows₀) × (len ≡ length rows₀) × (old ≡ getD rows₀ p 0) × (n < 2 ^ 64))
-    × (loops ≡ n ∷ p ∷ one .left ∷ one .right ∷ one .own ∷ take (length loops - 5) (drop 5 loops))
-    × Sound (length area₀) join (n ∷ p ∷ one .left ∷ one .right ∷ one .own ∷ take (length loops - 5) (drop 5 loops)) rows₀ l r t count
+    × (loops ≡ loopThen one (take (length loops - 5) (drop 5 loops)))
+    × Sound (length area₀) join (loopThen one (take (length loops - 5) (drop 5 loops))) rows₀ l r t count
     × ((x : ℕ) → set rows p x ≡ set rows₀ p x)
-    × Walked (loopTurn join n p (one .left) (one .right) (one .own) (take (length loops - 5) (drop 5 loops)) rows₀ l r t) n (state e₀ area₀) (state e area) i
+    × Walked (loopTurn join one (take (length loops - 5) (drop 5 loops)) rows₀ l r t) (one .count) (state e₀ area₀) (state e area) i
 
 abbrev walk-loops-μ-loop : walk-loops-lts.MeasureT-loop
 walk-loops-μ-loop area₀ join loops rows₀ l r t count len one n p old e₀ i₀ area rows e i = n - i
@@ -77,6 +76,9 @@ walk-loops-add-set-at t c = search needs
 walk-loops-set-at-requires : (t : ℕ) → walk-loops-lts.Need-set-at-requires (calls t) (walk-loops-at t) walk-loops.Post walk-loops-Inv-loop walk-loops-μ-loop
 walk-loops-set-at-requires t c κs = search needs
 
+walk-loops-turn-at-requires : (t : ℕ) → walk-loops-lts.Need-turn-at-requires (calls t) (walk-loops-at t) walk-loops.Post walk-loops-Inv-loop walk-loops-μ-loop
+walk-loops-turn-at-requires t c κs = (c .before .before .before .before .loop-test .taken, turn-numbers _ _ _ _ _ _ _ _ _ (c .before .before .before .before .before .loop .inv .2) _ (c .before .before .before .before .loop-test .taken) _ (c .before .before .before .before .before .loop .inv .0 .3))
+
 walk-loops-sub-walk-loops : (t : ℕ) → walk-loops-lts.Need-sub-walk-loops (calls t) (walk-loops-at t) walk-loops.Post walk-loops-Inv-loop walk-loops-μ-loop
 walk-loops-sub-walk-loops t c = omega arith
 
@@ -86,54 +88,30 @@ walk-loops-part-walk-loops-start t c = omega arith
 walk-loops-part-walk-loops-end : (t : ℕ) → walk-loops-lts.Need-part-walk-loops-end (calls t) (walk-loops-at t) walk-loops.Post walk-loops-Inv-loop walk-loops-μ-loop
 walk-loops-part-walk-loops-end t c = search needs
 
-walk-loops-mul-walk-loops : (t : ℕ) → walk-loops-lts.Need-mul-walk-loops (calls t) (walk-loops-at t) walk-loops.Post walk-loops-Inv-loop walk-loops-μ-loop
-walk-loops-mul-walk-loops t c = omega (arith, turn-numbers _ _ _ _ _ _ _ _ _ _ _ _ _ (c .before .before .before .before .before .before .before .before .before .loop .inv .2) _ (c .before .before .before .before .before .before .before .before .loop-test .taken) .l-low)
-
-walk-loops-add-walk-loops : (t : ℕ) → walk-loops-lts.Need-add-walk-loops (calls t) (walk-loops-at t) walk-loops.Post walk-loops-Inv-loop walk-loops-μ-loop
-walk-loops-add-walk-loops t c = omega (arith, turn-numbers _ _ _ _ _ _ _ _ _ _ _ _ _ (c .before .before .before .before .before .before .before .before .before .loop .inv .2) _ (c .before .before .before .before .before .before .before .before .loop-test .taken) .l-low)
-
-walk-loops-mul-walk-loops-2 : (t : ℕ) → walk-loops-lts.Need-mul-walk-loops-2 (calls t) (walk-loops-at t) walk-loops.Post walk-loops-Inv-loop walk-loops-μ-loop
-walk-loops-mul-walk-loops-2 t c = omega (arith, turn-numbers _ _ _ _ _ _ _ _ _ _ _ _ _ (c .before .before .before .before .before .before .before .before .before .before .loop .inv .2) _ (c .before .before .before .before .before .before .before .before .before .loop-test .taken) .r-low)
-
-walk-loops-add-walk-loops-2 : (t : ℕ) → walk-loops-lts.Need-add-walk-loops-2 (calls t) (walk-loops-at t) walk-loops.Post walk-loops-Inv-loop walk-loops-μ-loop
-walk-loops-add-walk-loops-2 t c = omega (arith, turn-numbers _ _ _ _ _ _ _ _ _ _ _ _ _ (c .before .before .before .before .before .before .before .before .before .before .loop .inv .2) _ (c .before .before .before .before .before .before .before .before .before .loop-test .taken) .r-low)
-
-walk-loops-mul-walk-loops-3 : (t : ℕ) → walk-loops-lts.Need-mul-walk-loops-3 (calls t) (walk-loops-at t) walk-loops.Post walk-loops-Inv-loop walk-loops-μ-loop
-walk-loops-mul-walk-loops-3 t c = omega (arith, turn-numbers _ _ _ _ _ _ _ _ _ _ _ _ _ (c .before .before .before .before .before .before .before .before .before .before .before .loop .inv .2) _ (c .before .before .before .before .before .before .before .before .before .before .loop-test .taken) .t-low)
-
-walk-loops-add-walk-loops-3 : (t : ℕ) → walk-loops-lts.Need-add-walk-loops-3 (calls t) (walk-loops-at t) walk-loops.Post walk-loops-Inv-loop walk-loops-μ-loop
-walk-loops-add-walk-loops-3 t c = omega (arith, turn-numbers _ _ _ _ _ _ _ _ _ _ _ _ _ (c .before .before .before .before .before .before .before .before .before .before .before .loop .inv .2) _ (c .before .before .before .before .before .before .before .before .before .before .loop-test .taken) .t-low)
-
-walk-loops-add-times : (t : ℕ) → walk-loops-lts.Need-add-times (calls t) (walk-loops-at t) walk-loops.Post walk-loops-Inv-loop walk-loops-μ-loop
-walk-loops-add-times t c = search needs
-
-walk-loops-times-requires : (t : ℕ) → walk-loops-lts.Need-times-requires (calls t) (walk-loops-at t) walk-loops.Post walk-loops-Inv-loop walk-loops-μ-loop
-walk-loops-times-requires t c κs = rw (c .before .before .before .before .before .before .before .before .before .before .before .loop .inv .0 .3) (turn-numbers _ _ _ _ _ _ _ _ _ _ _ _ _ (c .before .before .before .before .before .before .before .before .before .before .before .loop .inv .2) _ (c .before .before .before .before .before .before .before .before .before .before .loop-test .taken) .count-low)
-
 walk-loops-walk-loops-requires : (t : ℕ) → walk-loops-lts.Need-walk-loops-requires (calls t) (walk-loops-at t) walk-loops.Post walk-loops-Inv-loop walk-loops-μ-loop
 walk-loops-walk-loops-requires t c κs =
-    let i = c .before .before .before .before .before .before .before .before .before .before .before .before .loop .inv in
-    let loops = c .before .before .before .before .before .before .before .before .before .before .before .before .before .before .before .before .before .before .before .before .args .loops .now in (
-      omega (arith, i .0 .0, length-take (length loops - 5) (drop 5 loops), length-drop 5 loops, c .before .before .before .before .before .before .before .before .before .before .before .before .before .before .before .before .before .before .before .before .pre .0),
-      turn-sound _ _ _ _ _ _ _ _ _ _ _ _ _ (i .2) _ (c .before .before .before .before .before .before .before .before .before .before .before .loop-test .taken) _ _ _ (i .0 .1) (c .before .before .before .before .before .before .before .before .before .set-at .ensures ∙ i .3 _) (c .times .ensures ∙ rw (i .0 .3)),
+    let i = c .before .before .before .before .before .before .before .before .before .loop .inv in
+    let loops = c .before .before .before .before .before .before .before .before .before .before .before .before .before .before .before .before .before .args .loops .now in (
+      omega (arith, i .0 .0, length-take (length loops - 5) (drop 5 loops), length-drop 5 loops, c .before .before .before .before .before .before .before .before .before .before .before .before .before .before .before .before .before .pre .0),
+      turn-sound _ _ _ _ _ _ _ _ _ (i .2) _ (c .before .before .before .before .before .before .before .before .loop-test .taken) _ (i .0 .3) _ _ _ (i .0 .1) (c .before .before .before .before .before .before .set-at .ensures ∙ i .3 _) (c .before .before .before .turn-at .ensures),
     )
 
 walk-loops-next-requires : (t : ℕ) → walk-loops-lts.Need-next-requires (calls t) (walk-loops-at t) walk-loops.Post walk-loops-Inv-loop walk-loops-μ-loop
-walk-loops-next-requires t c κs = c .before .before .before .before .before .before .before .before .before .before .before .before .before .before .before .before .loop-test .taken
+walk-loops-next-requires t c κs = c .before .before .before .before .before .before .before .before .before .before .before .before .before .loop-test .taken
 
 walk-loops-loop-less : (t : ℕ) → walk-loops-lts.Need-loop-less (calls t) (walk-loops-at t) walk-loops.Post walk-loops-Inv-loop walk-loops-μ-loop
-walk-loops-loop-less t c = turn-less _ _ _ _ (c .before .before .before .before .before .before .before .before .before .before .before .before .before .before .before .before .before .loop-test .taken) (c .next .ensures)
+walk-loops-loop-less t c = turn-less _ _ _ _ (c .before .before .before .before .before .before .before .before .before .before .before .before .before .before .loop-test .taken) (c .next .ensures)
 
 walk-loops-loop-again : (t : ℕ) → walk-loops-lts.Need-loop-again (calls t) (walk-loops-at t) walk-loops.Post walk-loops-Inv-loop walk-loops-μ-loop
 walk-loops-loop-again t c =
-    let i = c .before .before .before .before .before .before .before .before .before .before .before .before .before .before .before .before .before .before .loop .inv in
-    let rows = c .before .before .before .before .before .before .before .before .before .before .before .before .before .before .before .before .before .before .loop .rows in
-    let rows₀ = c .before .before .before .before .before .before .before .before .before .before .before .before .before .before .before .before .before .before .before .before .before .before .before .before .before .before .args .rows .now in (
-      (i .0 .0, omega (arith, c .before .before .before .before .before .walk-loops .kept .0, i .0 .1), write-length rows rows₀ _ _ _ _ (i .0 .2) (c .before .before .before .before .before .before .before .before .before .before .before .before .before .before .before .set-at .ensures) (c .before .before .before .before .before .walk-loops .ensures .1), i .0 .3, i .0 .4, i .0 .5),
+    let i = c .before .before .before .before .before .before .before .before .before .before .before .before .before .before .before .loop .inv in
+    let rows = c .before .before .before .before .before .before .before .before .before .before .before .before .before .before .before .loop .rows in
+    let rows₀ = c .before .before .before .before .before .before .before .before .before .before .before .before .before .before .before .before .before .before .before .before .before .before .before .args .rows .now in (
+      (i .0 .0, omega (arith, c .before .before .before .before .before .walk-loops .kept .0, i .0 .1), write-length rows rows₀ _ _ _ _ (i .0 .2) (c .before .before .before .before .before .before .before .before .before .before .before .before .set-at .ensures) (c .before .before .before .before .before .walk-loops .ensures .1), i .0 .3, i .0 .4, i .0 .5),
       i .1,
       i .2,
-      write-again rows rows₀ _ _ _ (c .before .before .before .before .before .before .before .before .before .before .before .before .before .before .before .before .before .before .loop .i + 1) (i .3) (c .before .before .before .before .before .before .before .before .before .before .before .before .before .before .before .set-at .ensures) (c .before .before .before .before .before .walk-loops .ensures .1),
-      loop-again _ _ _ _ _ _ _ _ _ _ _ _ _ _ _ _ (i .4) (c .before .before .before .before .before .before .before .before .before .before .before .before .before .before .before .before .before .loop-test .taken) _ (c .before .before .before .before .before .before .before .before .before .before .before .before .before .before .before .set-at .ensures ∙ i .3 _) (c .before .before .before .before .before .walk-loops .ensures .0) (c .next .ensures),
+      write-again rows rows₀ _ _ _ (c .before .before .before .before .before .before .before .before .before .before .before .before .before .before .before .loop .i + 1) (i .3) (c .before .before .before .before .before .before .before .before .before .before .before .before .set-at .ensures) (c .before .before .before .before .before .walk-loops .ensures .1),
+      loop-again _ _ _ _ _ _ _ _ _ _ _ _ (i .4) (c .before .before .before .before .before .before .before .before .before .before .before .before .before .before .loop-test .taken) _ (c .before .before .before .before .before .before .before .before .before .before .before .before .set-at .ensures ∙ i .3 _) _ _ _ (c .before .before .before .before .before .before .before .before .before .turn-at .ensures) (c .before .before .before .before .before .walk-loops .ensures .0) (c .next .ensures),
     )
 
 walk-loops-set-at-requires-2 : (t : ℕ) → walk-loops-lts.Need-set-at-requires-2 (calls t) (walk-loops-at t) walk-loops.Post walk-loops-Inv-loop walk-loops-μ-loop
@@ -148,7 +126,7 @@ walk-loops-same-length-4 t c = omega (arith, c .before .before .before .before .
 walk-loops-returns-2 : (t : ℕ) → walk-loops-lts.Need-returns-2 (calls t) (walk-loops-at t) walk-loops.Post walk-loops-Inv-loop walk-loops-μ-loop
 walk-loops-returns-2 t c =
     let i = c .before .before .before .before .before .loop .inv in
-    (loop-ends _ _ _ _ _ _ _ _ _ _ _ _ _ _ (i .4) (c .before .before .before .before .loop-test .left) _ (i .1), restored (c .before .before .before .before .before .loop .rows) (c .before .before .before .before .before .before .before .before .before .before .before .before .before .args .rows .now) _ _ _ (i .3) (i .0 .4) (c .before .before .set-at2 .ensures))
+    (loop-ends _ _ _ _ _ _ _ _ _ _ (i .4) (c .before .before .before .before .loop-test .left) _ (i .1), restored (c .before .before .before .before .before .loop .rows) (c .before .before .before .before .before .before .before .before .before .before .before .before .before .args .rows .now) _ _ _ (i .3) (i .0 .4) (c .before .before .set-at2 .ensures))
 
 pub +walk-loops-spec : {M : Type 1} → statement M
 +walk-loops-spec = close μ-walk-loops λ t. walk-loops-lts.spec (calls t)
@@ -165,17 +143,10 @@ pub +walk-loops-spec : {M : Type 1} → statement M
     (walk-loops-loop-holds t)
     (walk-loops-add-set-at t)
     (walk-loops-set-at-requires t)
+    (walk-loops-turn-at-requires t)
     (walk-loops-sub-walk-loops t)
     (walk-loops-part-walk-loops-start t)
     (walk-loops-part-walk-loops-end t)
-    (walk-loops-mul-walk-loops t)
-    (walk-loops-add-walk-loops t)
-    (walk-loops-mul-walk-loops-2 t)
-    (walk-loops-add-walk-loops-2 t)
-    (walk-loops-mul-walk-loops-3 t)
-    (walk-loops-add-walk-loops-3 t)
-    (walk-loops-add-times t)
-    (walk-loops-times-requires t)
     (walk-loops-walk-loops-requires t)
     (walk-loops-next-requires t)
     (walk-loops-loop-less t)

@@ -12,12 +12,12 @@ use Rattle.joins.proofs.walks.walk_last.Statement.{statement}
 use Rattle.joins.proofs.walks.walk_last.Tie as tie
 
 abbrev Inv-loop : tie.InvT-loop
-Inv-loop area₀ join rows₀ l r t count n p a b c len old e₀ i₀ area rows e i = ((length area ≡ length area₀) × (length rows ≡ length rows₀) × (len ≡ length rows₀) × (old ≡ getD rows₀ p 0) × (n < 2 ^ 64))
+Inv-loop area₀ join last rows₀ l r t count n p len old e₀ i₀ area rows e i = ((length area ≡ length area₀) × (length rows ≡ length rows₀) × (len ≡ length rows₀) × (old ≡ getD rows₀ p 0) × (n < 2 ^ 64))
     × ((x : ℕ) → set rows p x ≡ set rows₀ p x)
-    × Walked (loopTurn join n p a b c [] rows₀ l r t) n (state e₀ area₀) (state e area) i
+    × Walked (loopTurn join last [] rows₀ l r t) (last .count) (state e₀ area₀) (state e area) i
 
 abbrev μ-loop : tie.MeasureT-loop
-μ-loop area₀ join rows₀ l r t count n p a b c len old e₀ i₀ area rows e i = n - i
+μ-loop area₀ join last rows₀ l r t count n p len old e₀ i₀ area rows e i = n - i
 
 value-at-requires : tie.Need-value-at-requires Inv-loop μ-loop
 value-at-requires c κs = search needs
@@ -31,34 +31,13 @@ add-set-at c = search needs
 set-at-requires : tie.Need-set-at-requires Inv-loop μ-loop
 set-at-requires c κs = search needs
 
-mul-walk-cell : tie.Need-mul-walk-cell Inv-loop μ-loop
-mul-walk-cell c = omega (arith, turn-numbers _ _ _ _ _ _ _ _ _ _ _ _ _ (c .before .before .before .before .before .before .before .before .before .before .before .before .pre) _ (c .before .before .before .before .before .before .loop-test .taken) .l-low)
-
-add-walk-cell : tie.Need-add-walk-cell Inv-loop μ-loop
-add-walk-cell c = omega (arith, turn-numbers _ _ _ _ _ _ _ _ _ _ _ _ _ (c .before .before .before .before .before .before .before .before .before .before .before .before .pre) _ (c .before .before .before .before .before .before .loop-test .taken) .l-low)
-
-mul-walk-cell-2 : tie.Need-mul-walk-cell-2 Inv-loop μ-loop
-mul-walk-cell-2 c = omega (arith, turn-numbers _ _ _ _ _ _ _ _ _ _ _ _ _ (c .before .before .before .before .before .before .before .before .before .before .before .before .pre) _ (c .before .before .before .before .before .before .loop-test .taken) .r-low)
-
-add-walk-cell-2 : tie.Need-add-walk-cell-2 Inv-loop μ-loop
-add-walk-cell-2 c = omega (arith, turn-numbers _ _ _ _ _ _ _ _ _ _ _ _ _ (c .before .before .before .before .before .before .before .before .before .before .before .before .pre) _ (c .before .before .before .before .before .before .loop-test .taken) .r-low)
-
-mul-walk-cell-3 : tie.Need-mul-walk-cell-3 Inv-loop μ-loop
-mul-walk-cell-3 c = omega (arith, turn-numbers _ _ _ _ _ _ _ _ _ _ _ _ _ (c .before .before .before .before .before .before .before .before .before .before .before .before .pre) _ (c .before .before .before .before .before .before .loop-test .taken) .t-low)
-
-add-walk-cell-3 : tie.Need-add-walk-cell-3 Inv-loop μ-loop
-add-walk-cell-3 c = omega (arith, turn-numbers _ _ _ _ _ _ _ _ _ _ _ _ _ (c .before .before .before .before .before .before .before .before .before .before .before .before .pre) _ (c .before .before .before .before .before .before .loop-test .taken) .t-low)
-
-add-times : tie.Need-add-times Inv-loop μ-loop
-add-times c = search needs
-
-times-requires : tie.Need-times-requires Inv-loop μ-loop
-times-requires c κs = rw (c .before .before .before .before .before .before .before .loop .inv .0 .2) (turn-numbers _ _ _ _ _ _ _ _ _ _ _ _ _ (c .before .before .before .before .before .before .before .before .before .before .before .before .pre) _ (c .before .before .before .before .before .before .loop-test .taken) .count-low)
+turn-at-requires : tie.Need-turn-at-requires Inv-loop μ-loop
+turn-at-requires c κs = (c .before .before .before .before .loop-test .taken, turn-numbers _ _ _ _ _ _ _ _ _ (c .before .before .before .before .before .before .before .before .before .before .pre) _ (c .before .before .before .before .loop-test .taken) _ (c .before .before .before .before .before .loop .inv .0 .2))
 
 walk-cell-requires : tie.Need-walk-cell-requires Inv-loop μ-loop
 walk-cell-requires c κs =
     let i = c .before .before .before .before .before .before .before .before .loop .inv in
-    let at = last-at _ _ _ _ _ _ _ (turn-sound _ _ _ _ _ _ _ _ _ _ _ _ _ (c .before .before .before .before .before .before .before .before .before .before .before .before .before .pre) _ (c .before .before .before .before .before .before .before .loop-test .taken) _ _ _ (i .0 .0) (c .before .before .before .before .before .set-at .ensures ∙ i .1 _) (c .times .ensures ∙ rw (i .0 .2))) in
+    let at = last-at _ _ _ _ _ _ _ (turn-sound _ _ _ _ _ _ _ _ _ (c .before .before .before .before .before .before .before .before .before .before .before .before .before .pre) _ (c .before .before .before .before .before .before .before .loop-test .taken) _ (i .0 .2) _ _ _ (i .0 .0) (c .before .before .before .before .before .set-at .ensures ∙ i .1 _) (c .before .before .turn-at .ensures)) in
     (at .inside, at .counted)
 
 next-requires : tie.Need-next-requires Inv-loop μ-loop
@@ -74,7 +53,7 @@ loop-again c =
     let rows₀ = c .before .before .before .before .before .before .before .before .before .before .before .before .before .before .before .before .before .args .rows .now in (
       (omega (arith, c .before .before .before .walk-cell .kept .0, i .0 .0), write-length rows rows₀ _ _ _ _ (i .0 .1) (c .before .before .before .before .before .before .before .before .before .set-at .ensures) refl, i .0 .2, i .0 .3, i .0 .4),
       write-again rows rows₀ _ _ _ (c .before .before .before .before .before .before .before .before .before .before .before .before .loop .i + 1) (i .1) (c .before .before .before .before .before .before .before .before .before .set-at .ensures) refl,
-      last-again _ _ _ _ _ _ _ _ _ _ _ _ _ _ _ (i .2) (c .before .before .before .before .before .before .before .before .before .before .before .loop-test .taken) _ (c .before .before .before .before .before .before .before .before .before .set-at .ensures ∙ i .1 _) (c .before .before .before .walk-cell .ensures) (c .next .ensures),
+      last-again _ _ _ _ _ _ _ _ _ _ _ (i .2) (c .before .before .before .before .before .before .before .before .before .before .before .loop-test .taken) _ (c .before .before .before .before .before .before .before .before .before .set-at .ensures ∙ i .1 _) _ _ _ (c .before .before .before .before .before .before .turn-at .ensures) (c .before .before .before .walk-cell .ensures) (c .next .ensures),
     )
 
 set-at-requires-2 : tie.Need-set-at-requires-2 Inv-loop μ-loop
@@ -89,7 +68,7 @@ same-length-2 c = omega (arith, c .before .before .before .before .before .loop 
 returns : tie.Need-returns Inv-loop μ-loop
 returns c =
     let i = c .before .before .before .before .before .loop .inv in
-    (loop-ends _ _ _ _ _ _ _ _ _ _ _ _ _ _ (i .2) (c .before .before .before .before .loop-test .left) _ refl, restored (c .before .before .before .before .before .loop .rows) (c .before .before .before .before .before .before .before .before .before .before .args .rows .now) _ _ _ (i .1) (i .0 .3) (c .before .before .set-at2 .ensures))
+    (loop-ends _ _ _ _ _ _ _ _ _ _ (i .2) (c .before .before .before .before .loop-test .left) _ refl, restored (c .before .before .before .before .before .loop .rows) (c .before .before .before .before .before .before .before .before .before .before .args .rows .now) _ _ _ (i .1) (i .0 .3) (c .before .before .set-at2 .ensures))
 
 pub walk-last-spec : {M : Type 1} → statement M
 walk-last-spec =
@@ -101,14 +80,7 @@ walk-last-spec =
     loop-holds
     add-set-at
     set-at-requires
-    mul-walk-cell
-    add-walk-cell
-    mul-walk-cell-2
-    add-walk-cell-2
-    mul-walk-cell-3
-    add-walk-cell-3
-    add-times
-    times-requires
+    turn-at-requires
     walk-cell-requires
     next-requires
     loop-less
