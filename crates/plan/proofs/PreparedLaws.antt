@@ -13,7 +13,9 @@ use Rattle.network.proofs.AreaLaws.{cells-some}
 use Rattle.network.proofs.PostorderLaws.{postorder, none}
 use Rattle.modelfile.specs.Network.{treeOf}
 use Rattle.modelfile.specs.declared.Model.{Model}
+use Rattle.calls.specs.Asked.{pairsListed}
 use Rattle.calls.proofs.FileLaws.{Fit, fit, take-low, length-routes}
+use Rattle.calls.proofs.SlotLaws.{listed-pairs}
 use Rattle.plan.specs.Table.{totalsOf, routesIn, windowsIn}
 use Rattle.plan.specs.Steps.{Few, noNode}
 use Rattle.plan.specs.Asking.{Prepared, chainsOf}
@@ -45,6 +47,9 @@ module _ {m : Model} {windows : List ℕ} {t : Table} (p : Prepared m windows t)
 
   pub some-cells : 1 ≤ t .cells
   some-cells = omega (arith, p .tabled .cells-are, cells-some (routesIn m) (windowsIn m windows) (treeOf m))
+
+  pub pairs-counted : length (pairsListed m (windowsIn m windows)) ≡ t .pairs
+  pairs-counted = listed-pairs m (windowsIn m windows) fits ∙ sym (p .tabled .pairs-are)
 
   pub parted-all : Parted (routesIn m) (under (treeOf m)) []
   parted-all = rw (append-nil (under (treeOf m)), length-routes m (p .guaranteed)) (p .guaranteed .leaves)

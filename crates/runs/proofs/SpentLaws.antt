@@ -15,14 +15,13 @@ use Rattle.modelfile.specs.declared.Model.{Model}
 use Rattle.calls.specs.Asked.{ask, pairsListed}
 use Rattle.calls.specs.Advance.{noAdvance, valueAt, told, advanceIn, advance}
 use Rattle.calls.specs.declared.AdvanceAnswer.{AdvanceAnswer}
-use Rattle.calls.proofs.SlotLaws.{listed-pairs}
 use Rattle.plan.specs.Table.{windowsIn}
 use Rattle.plan.specs.Lowered.{askedOf}
 use Rattle.plan.specs.Asking.{Prepared, RunFor}
 use Rattle.plan.specs.declared.Asked.{Asked}
 use Rattle.plan.specs.declared.Run.{Run}
 use Rattle.plan.specs.declared.Table.{Table}
-use Rattle.plan.proofs.PreparedLaws.{fits, some-cells}
+use Rattle.plan.proofs.PreparedLaws.{some-cells, pairs-counted}
 use Rattle.joins.specs.Walk.{state, walk}
 use Rattle.joins.specs.declared.Quota.{Quota}
 use Rattle.joins.proofs.WalkLaws.{remains, walk-spend}
@@ -76,8 +75,7 @@ module _ (m : Model) (windows : List ℕ) (t : Table) (p : Prepared m windows t)
         let g = went (2 ^ 64) (take budget (drop done (pairsListed m ws))) done area in
         let l = length-take budget (drop done (pairsListed m ws)) in
         let d = length-drop done (pairsListed m ws) in
-        let n : length (pairsListed m ws) ≡ t .pairs = listed-pairs m ws (fits p) ∙ sym (p .tabled .pairs-are) in
-        omega (arith, done-is, g .number, g .few, l, d, n)
+        omega (arith, done-is, g .number, g .few, l, d, pairs-counted p)
 
     after-long : length after ≡ length area
     after-long = ap length area-is ∙ spend-length (2 ^ 64) (take budget (drop done (pairsListed m ws))) done area

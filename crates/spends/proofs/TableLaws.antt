@@ -13,7 +13,6 @@ use Rattle.network.specs.Coverage.{Tree, leaf, join, under}
 use Rattle.network.specs.Cells.{allCells}
 use Rattle.network.specs.Pairs.{Pair}
 use Rattle.network.proofs.CoverageLaws.{Parted}
-use Rattle.network.proofs.CountLaws.{length-listed}
 use Rattle.network.proofs.PostorderLaws.{nodesIn, nodes-some, length-postorder, pairsOf, listed-postorder, parted-in, children}
 use Rattle.network.proofs.AreaLaws.{base-is}
 use Rattle.network.proofs.LayoutLaws.{room-at}
@@ -104,9 +103,6 @@ module _ {m : Model} {windows : List ℕ} {t : Table} (p : Prepared m windows t)
       let g : Tree × ℕ → List Pair = pairsOf (routesIn m) (windowsIn m windows) in
       ap (flatMap g) (take-all (t .count) (treeNodes m windows) (omega (arith, length-nodes p)) ∙ sym (take-append-drop i (treeNodes m windows)))
       ∙ flat-append g (take i (treeNodes m windows)) (drop i (treeNodes m windows))
-
-  pub pairs-counted : length (pairsListed m (windowsIn m windows)) ≡ t .pairs
-  pairs-counted = length-listed (routesIn m) (windowsIn m windows) (treeOf m) [] (parted-all p) 0 ∙ sym (p .tabled .pairs-are)
 
   -- all nodes give all pairs
   pairs-all : (i : ℕ) → t .count ≤ i → pairsTo m windows i ≡ pairsListed m (windowsIn m windows)

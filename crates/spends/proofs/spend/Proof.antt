@@ -1,7 +1,7 @@
 -- `spend` meets its contract: without a budget the pairs need only be counted, and the table has their number.
 use borrow.Author.Needs.{needs}
 use Rattle.spends.proofs.NodeLaws.{quota-over, quota-none}
-use Rattle.spends.proofs.TableLaws.{pairs-counted}
+use Rattle.plan.proofs.PreparedLaws.{pairs-counted}
 use Rattle.spends.proofs.spend.Statement.{statement}
 use Rattle.spends.proofs.spend.Tie as tie
 
