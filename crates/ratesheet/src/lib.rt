@@ -16,10 +16,10 @@ use crate::answers::no_sheet;
 use crate::lowered::numerators;
 use arith::Fits;
 use calls::SheetAnswer;
+use fills::clear;
 use modelfile::Model;
 use modelfile::Verdict;
 use plan::tables::make_table;
-use runs::fill::clear;
 use runs::no_room;
 use runs::whole::whole_value;
 

@@ -1,9 +1,3 @@
-pub mod EndLaws
-pub mod LeafLaws
-pub mod NodeLaws
-pub mod FillLaws
-pub mod PreparedLaws
-pub mod TurnLaws
 pub mod StartLaws
 pub mod SpentLaws
 pub mod WholeLaws

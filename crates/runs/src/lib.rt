@@ -1,7 +1,5 @@
 // The calls that run over an area: start and advance.
 pub mod advance; // advance.rt: the advance call
-pub mod fill; // fill.rt: what a start writes, node by node
-pub mod leaves; // leaves.rt: the cells of one leaf
 pub mod whole; // whole.rt: a whole run in one call
 
 ghost use mathlib.Core.Path.{_≡_};
@@ -12,9 +10,9 @@ ghost use lib.ListN.{length, getD};
 ghost use Rattle.calls.specs.Start.{startIn, start};
 ghost use Rattle.plan.specs.Table.{windowsIn};
 ghost use Rattle.plan.specs.Asking.{Prepared};
-use crate::fill::fill;
-use crate::fill::some_leaf_too_large;
 use calls::StartAnswer;
+use fills::fill;
+use fills::some_leaf_too_large;
 use modelfile::Model;
 use plan::Asked;
 use plan::Table;
