@@ -1,6 +1,7 @@
 // Models drawn by chance, and models that are given.
 use crate::memory::CENTRES;
 use crate::memory::CHAINS;
+use crate::memory::CHANCE;
 use crate::memory::HOMES;
 use crate::memory::LOADS;
 use crate::memory::SEED;
@@ -14,7 +15,7 @@ use crate::memory::put;
 use crate::memory::times;
 
 // Each number is the one before times 48271, modulo the prime 2^31 - 1.
-pub fn draw(m: &mut [u64], low: u64, high: u64) -> u64 {
+fn draw(m: &mut [u64], low: u64, high: u64) -> u64 {
     let next = at(m, SEED, 0) % 2147483647 * 48271 % 2147483647;
     put(m, SEED, 0, next);
     if high < 100000 {
@@ -89,13 +90,15 @@ pub fn draw_model(m: &mut [u64]) {
     put(m, CHAINS, 0, chains);
     draw_chains(m);
     draw_loads(m);
+    let chance = draw(m, 0, 1000);
+    put(m, CHANCE, 0, chance);
 }
 
-// The least and the most centres, chains, windows and loads, and the sixteenths; then drawing begins anew.
-pub fn set_shape(m: &mut [u64], shape: [u64; 9]) {
+// The least and the most centres, chains, windows and loads, the sixteenths, and 1 for models on both sides of 2^64. Drawing begins anew.
+pub fn set_shape(m: &mut [u64], shape: [u64; 10]) {
     put(m, SEED, 0, 1);
     let mut i: usize = 0;
-    while i < 9 {
+    while i < 10 {
         put(m, SHAPE, i as u64, shape[i]);
         i += 1;
     }

@@ -1,6 +1,8 @@
 // The bytes of the model's file, with a tree of a given kind.
 use crate::memory::CENTRES;
 use crate::memory::CHAINS;
+use crate::memory::CHANCE;
+use crate::memory::FIRST;
 use crate::memory::LOADS;
 use crate::memory::WINDOWS;
 use crate::memory::at;
@@ -148,6 +150,14 @@ fn push_tree(file: &mut [u8], n: usize, t: Tree, centres: u64) -> usize {
     w.bytes
 }
 
+// How many trees are tried: where the first leaf is given, and for one centre, one.
+pub fn trees(m: &[u64]) -> u64 {
+    if at(m, FIRST, 0) != 0 {
+        return 1;
+    }
+    if at(m, CENTRES, 0) == 1 { 1 } else { 6 }
+}
+
 // Each leaf joined at once, all leaves first, or subtrees of as many leaves joined; in place of the second, from the fourth on, a pattern by chance.
 fn pattern_of(i: u64, chance: u64) -> u64 {
     if i % 3 == 0 {
@@ -159,14 +169,15 @@ fn pattern_of(i: u64, chance: u64) -> u64 {
     if i < 3 { 0 } else { times(chance, 48271) }
 }
 
-// Six trees: three with the leaves in order, three with an order by chance.
-pub fn tree_of(i: u64, chance: u64) -> Tree {
+// The leaves in order, from the fourth tree on in an order by chance; where the first leaf is given, in order from there on.
+pub fn tree_of(m: &[u64], i: u64) -> Tree {
+    let chance = at(m, CHANCE, 0);
     let pattern = pattern_of(i, chance);
     if i < 3 {
         return Tree {
             pattern,
             step: 1,
-            turn: 1,
+            turn: plus(minus(at(m, FIRST, 0), 1), 1),
         };
     }
     Tree {

@@ -5,7 +5,7 @@ use arith::Fits;
 // A number of 2^64 or more. No weight is 2^64 - 1, which has the prime factor 6700417.
 pub const MOST: u64 = 18446744073709551615;
 
-// One number each: what a model has, the entries of one centre's table, and the last number drawn.
+// One number each: what the model has, the entries of one centre's table, and the last number drawn.
 pub const CENTRES: u64 = 0;
 
 pub const CHAINS: u64 = 1;
@@ -13,6 +13,14 @@ pub const CHAINS: u64 = 1;
 pub const SIZE: u64 = 2;
 
 pub const SEED: u64 = 3;
+// For trees: a number by chance, and the first leaf if the model has but one tree, else 0.
+pub const CHANCE: u64 = 4;
+
+pub const FIRST: u64 = 5;
+// Of two models on both sides of 2^64: which one is at hand, 0 if none, and the value of the first.
+pub const SIDE: u64 = 6;
+
+pub const LOW: u64 = 7;
 // By chain: its window, what one message adds to an index of the table, and a centre that it visits.
 pub const WINDOWS: u64 = 8;
 

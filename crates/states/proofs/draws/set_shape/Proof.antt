@@ -1,4 +1,4 @@
--- The numbers passed stay at most 9; the slice keeps its length.
+-- The numbers passed stay at most 10; the slice keeps its length.
 use Prim.Native.Nat.{_-_, _≤_}
 use mathlib.Core.Path.{_≡_}
 use lib.ListN.{length}
@@ -7,10 +7,10 @@ use Rattle.states.proofs.draws.set_shape.Statement.{statement}
 use Rattle.states.proofs.draws.set_shape.Tie as tie
 
 abbrev Inv-loop : tie.InvT-loop
-Inv-loop m₀ shape i₀ m i = (length m ≡ length m₀) × (i ≤ 9)
+Inv-loop m₀ shape i₀ m i = (length m ≡ length m₀) × (i ≤ 10)
 
 abbrev μ-loop : tie.MeasureT-loop
-μ-loop m₀ shape i₀ m i = 9 - i
+μ-loop m₀ shape i₀ m i = 10 - i
 
 put-requires : tie.Need-put-requires Inv-loop μ-loop
 put-requires c κs = search needs

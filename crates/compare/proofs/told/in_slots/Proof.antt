@@ -3,8 +3,8 @@ use Prim.Native.Nat.{_-_, _≤_}
 use mathlib.Core.Path.{_≡_}
 use lib.ListN.{length}
 use borrow.Author.Needs.{needs}
-use Rattle.compare.proofs.told.run.Statement.{statement}
-use Rattle.compare.proofs.told.run.Tie as tie
+use Rattle.compare.proofs.told.in_slots.Statement.{statement}
+use Rattle.compare.proofs.told.in_slots.Tie as tie
 
 abbrev Inv-loop : tie.InvT-loop
 Inv-loop file lower budget slots area₀ t₀ i₀ area t i = (length area ≡ length area₀) × (i ≤ slots)
@@ -42,8 +42,8 @@ same-length-2 c = search needs
 returns-2 : tie.Need-returns-2 Inv-loop μ-loop
 returns-2 c = search needs
 
-pub run-spec : {M : Type 1} → statement M
-run-spec =
+pub in-slots-spec : {M : Type 1} → statement M
+in-slots-spec =
     tie.close
     (tie.spec
     Inv-loop

@@ -1,25 +1,31 @@
--- The models counted stay at most as many as wanted; the slices keep their lengths.
+-- The models counted stay at most 1052; the slices keep their lengths.
 use Prim.Native.Nat.{_-_, _≤_}
 use mathlib.Core.Path.{_≡_}
 use lib.ListN.{length}
 use borrow.Author.Needs.{needs}
-use Rattle.compare.proofs.shapes.hold_all.Statement.{statement}
-use Rattle.compare.proofs.shapes.hold_all.Tie as tie
+use Rattle.compare.proofs.hold_all.Statement.{statement}
+use Rattle.compare.proofs.hold_all.Tie as tie
 
 abbrev Inv-loop : tie.InvT-loop
-Inv-loop m₀ models sides area₀ i₀ m area i = (length m ≡ length m₀) × (length area ≡ length area₀) × (i ≤ models)
+Inv-loop m₀ area₀ j₀ m area j = (length m ≡ length m₀) × (length area ≡ length area₀) × (j ≤ 1052)
 
 abbrev μ-loop : tie.MeasureT-loop
-μ-loop m₀ models sides area₀ i₀ m area i = models - i
+μ-loop m₀ area₀ j₀ m area j = 1052 - j
 
 loop-holds : tie.Need-loop-holds Inv-loop μ-loop
 loop-holds c = search needs
 
-hold-drawn-requires : tie.Need-hold-drawn-requires Inv-loop μ-loop
-hold-drawn-requires c κs = search needs
+begin-requires : tie.Need-begin-requires Inv-loop μ-loop
+begin-requires c κs = search needs
 
-add-i : tie.Need-add-i Inv-loop μ-loop
-add-i c = search needs
+hold-model-requires : tie.Need-hold-model-requires Inv-loop μ-loop
+hold-model-requires c κs = search needs
+
+end-requires : tie.Need-end-requires Inv-loop μ-loop
+end-requires c κs = search needs
+
+add-j : tie.Need-add-j Inv-loop μ-loop
+add-j c = search needs
 
 loop-less : tie.Need-loop-less Inv-loop μ-loop
 loop-less c = search needs
@@ -43,8 +49,10 @@ hold-all-spec =
     Inv-loop
     μ-loop
     loop-holds
-    hold-drawn-requires
-    add-i
+    begin-requires
+    hold-model-requires
+    end-requires
+    add-j
     loop-less
     loop-again
     same-length

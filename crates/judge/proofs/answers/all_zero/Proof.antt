@@ -1,8 +1,8 @@
 -- The cells counted stay at most as many as there are.
 use Prim.Native.Nat.{_-_, _≤_}
 use borrow.Author.Needs.{needs}
-use Rattle.compare.proofs.told.all_zero.Statement.{statement}
-use Rattle.compare.proofs.told.all_zero.Tie as tie
+use Rattle.judge.proofs.answers.all_zero.Statement.{statement}
+use Rattle.judge.proofs.answers.all_zero.Tie as tie
 
 abbrev Inv-loop : tie.InvT-loop
 Inv-loop area cells i₀ i = i ≤ cells

@@ -3,8 +3,8 @@ use Prim.Native.Nat.{_-_, _≤_}
 use mathlib.Core.Path.{_≡_}
 use lib.ListN.{length}
 use borrow.Author.Needs.{needs}
-use Rattle.compare.proofs.held.hold_runs.Statement.{statement}
-use Rattle.compare.proofs.held.hold_runs.Tie as tie
+use Rattle.compare.proofs.hold_runs.Statement.{statement}
+use Rattle.compare.proofs.hold_runs.Tie as tie
 
 abbrev Inv-loop : tie.InvT-loop
 Inv-loop m₀ file area₀ chains lower₀ m area lower = (length m ≡ length m₀) × (length area ≡ length area₀) × (lower ≤ 9)
@@ -27,8 +27,20 @@ same-length-2 c = search needs
 returns : tie.Need-returns Inv-loop μ-loop
 returns c = search needs
 
-hold-run-requires : tie.Need-hold-run-requires Inv-loop μ-loop
-hold-run-requires c κs = search needs
+run-requires : tie.Need-run-requires Inv-loop μ-loop
+run-requires c κs = search needs
+
+judge-run-requires : tie.Need-judge-run-requires Inv-loop μ-loop
+judge-run-requires c κs = search needs
+
+run-requires-2 : tie.Need-run-requires-2 Inv-loop μ-loop
+run-requires-2 c κs = search needs
+
+judge-run-requires-2 : tie.Need-judge-run-requires-2 Inv-loop μ-loop
+judge-run-requires-2 c κs = search needs
+
+tell-line-requires : tie.Need-tell-line-requires Inv-loop μ-loop
+tell-line-requires c κs = search needs
 
 add-lower : tie.Need-add-lower Inv-loop μ-loop
 add-lower c = search needs
@@ -59,7 +71,11 @@ hold-runs-spec =
     same-length
     same-length-2
     returns
-    hold-run-requires
+    run-requires
+    judge-run-requires
+    run-requires-2
+    judge-run-requires-2
+    tell-line-requires
     add-lower
     loop-less
     loop-again

@@ -1,8 +1,8 @@
 -- The numbers told stay at most as many as wanted.
 use Prim.Native.Nat.{_-_, _≤_}
 use borrow.Author.Needs.{needs}
-use Rattle.states.proofs.counts.tell_all.Statement.{statement}
-use Rattle.states.proofs.counts.tell_all.Tie as tie
+use Rattle.judge.proofs.texts.tell_all.Statement.{statement}
+use Rattle.judge.proofs.texts.tell_all.Tie as tie
 
 abbrev Inv-loop : tie.InvT-loop
 Inv-loop m region n i₀ t5 t6 i = i ≤ n

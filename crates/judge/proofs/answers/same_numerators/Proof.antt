@@ -1,8 +1,8 @@
 -- The chains counted stay at most 8.
 use Prim.Native.Nat.{_-_, _≤_}
 use borrow.Author.Needs.{needs}
-use Rattle.compare.proofs.told.same_numerators.Statement.{statement}
-use Rattle.compare.proofs.told.same_numerators.Tie as tie
+use Rattle.judge.proofs.answers.same_numerators.Statement.{statement}
+use Rattle.judge.proofs.answers.same_numerators.Tie as tie
 
 abbrev Inv-loop : tie.InvT-loop
 Inv-loop m numerators k₀ k = k ≤ 8
