@@ -1,0 +1,88 @@
+// The lines of the scope document, "Numbers on each side".
+use crate::texts::say;
+use crate::texts::tell;
+use states::counts::COUNTS;
+use states::counts::DIFFERENCES;
+use states::draws::give_model;
+use states::memory::FIRST;
+use states::memory::TALLY;
+use states::memory::at;
+use states::memory::clear;
+use states::memory::put;
+
+// Centres, chains, windows of two chains, and their loads at each of three centres.
+const B: [u64; 10] = [3, 2, 1, 1, 1, 2, 3, 0, 0, 1];
+
+const TWO: [u64; 10] = [2, 1, 2, 0, 1, 0, 2, 0, 0, 0];
+
+const BOTH: [u64; 10] = [1, 2, 2, 1, 2, 3, 0, 0, 0, 0];
+
+const IDLE: [u64; 10] = [1, 1, 0, 0, 9, 0, 0, 0, 0, 0];
+
+const ONCE: [u64; 10] = [2, 1, 3, 0, 5, 0, 0, 0, 0, 0];
+
+const LARGE_4: [u64; 10] = [1, 1, 4, 0, 65535, 0, 0, 0, 0, 0];
+
+const LARGE_5: [u64; 10] = [1, 1, 5, 0, 65535, 0, 0, 0, 0, 0];
+
+const EXACT: [u64; 10] = [1, 1, 8, 0, 256, 0, 0, 0, 0, 0];
+
+const BELOW: [u64; 10] = [1, 1, 8, 0, 255, 0, 0, 0, 0, 0];
+
+const WIDE: [u64; 10] = [2, 1, 4, 0, 65535, 0, 1, 0, 0, 0];
+
+const WIDER: [u64; 10] = [2, 1, 4, 0, 65535, 0, 65535, 0, 0, 0];
+
+fn given(i: u64) -> [u64; 10] {
+    match i {
+        0 | 1 => B,
+        2 => TWO,
+        3 => BOTH,
+        4 => IDLE,
+        5 => ONCE,
+        6 => LARGE_4,
+        7 => LARGE_5,
+        8 => EXACT,
+        9 => BELOW,
+        10 => WIDE,
+        _ => WIDER,
+    }
+}
+
+fn say_line(i: u64) {
+    match i {
+        0 => say(b"B"),
+        1 => say(b"B, tree 2 3 join 1 join"),
+        2 => say(b"2 centres, window 2, loads 1 and 2"),
+        3 => say(b"1 centre, windows 2 and 1, loads 2 and 3"),
+        4 => say(b"1 centre, window 0, load 9"),
+        5 => say(b"2 centres, only centre 1 visited, window 3, load 5"),
+        6 => say(b"1 centre, window 4, load 65535"),
+        7 => say(b"1 centre, window 5, load 65535"),
+        8 => say(b"1 centre, window 8, load 256"),
+        9 => say(b"1 centre, window 8, load 255"),
+        10 => say(b"2 centres, window 4, loads 65535 and 1"),
+        _ => say(b"2 centres, window 4, both loads 65535"),
+    }
+}
+
+pub fn give_b(m: &mut [u64]) {
+    give_model(m, B);
+}
+
+// The tree of line 1 has centre 2 first, all others centre 1; each centre is joined to those before.
+fn first_leaf(i: u64) -> u64 {
+    if i == 1 { 2 } else { 1 }
+}
+
+pub fn begin_line(m: &mut [u64], i: u64) {
+    give_model(m, given(i));
+    put(m, FIRST, 0, first_leaf(i));
+    clear(m, TALLY, COUNTS);
+    say_line(i);
+}
+
+pub fn end_line(m: &[u64]) {
+    tell(b"\n  differences", at(m, TALLY, DIFFERENCES));
+    say(b"\n");
+}

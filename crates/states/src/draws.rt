@@ -1,0 +1,133 @@
+// Models drawn by chance, and models that are given.
+use crate::memory::CENTRES;
+use crate::memory::CHAINS;
+use crate::memory::CHANCE;
+use crate::memory::HOMES;
+use crate::memory::LOADS;
+use crate::memory::SEED;
+use crate::memory::SHAPE;
+use crate::memory::WINDOWS;
+use crate::memory::at;
+use crate::memory::clear;
+use crate::memory::minus;
+use crate::memory::plus;
+use crate::memory::put;
+use crate::memory::times;
+
+// Each number is the one before times 48271, modulo the prime 2^31 - 1.
+fn draw(m: &mut [u64], low: u64, high: u64) -> u64 {
+    let next = at(m, SEED, 0) % 2147483647 * 48271 % 2147483647;
+    put(m, SEED, 0, next);
+    if high < 100000 {
+        if low <= high {
+            return plus(low, next % (high - low + 1));
+        }
+    }
+    low
+}
+
+// A number between two of the shape's.
+fn draw_within(m: &mut [u64], i: u64) -> u64 {
+    let low = at(m, SHAPE, i);
+    let high = at(m, SHAPE, plus(i, 1));
+    draw(m, low, high)
+}
+
+fn draw_chain(m: &mut [u64], k: u64) {
+    let window = draw_within(m, 4);
+    let last = minus(at(m, CENTRES, 0), 1);
+    let home = draw(m, 0, last);
+    put(m, WINDOWS, k, window);
+    put(m, HOMES, k, home);
+}
+
+fn draw_chains(m: &mut [u64]) {
+    let chains = at(m, CHAINS, 0);
+    let mut k: u64 = 0;
+    while k < chains {
+        draw_chain(m, k);
+        k += 1;
+    }
+}
+
+// Whether a chain visits a centre: its home, and each other one with a chance of so many sixteenths.
+fn is_visited(m: &[u64], c: u64, k: u64, chance: u64) -> bool {
+    if at(m, CENTRES, 0) <= c {
+        return false;
+    }
+    if at(m, CHAINS, 0) <= k {
+        return false;
+    }
+    if at(m, HOMES, k) == c {
+        return true;
+    }
+    chance < at(m, SHAPE, 8)
+}
+
+fn draw_load(m: &mut [u64], i: u64) {
+    let chance = draw(m, 0, 15);
+    let load = draw_within(m, 6);
+    if is_visited(m, i / 8, i % 8, chance) {
+        put(m, LOADS, i, load);
+    } else {
+        put(m, LOADS, i, 0);
+    }
+}
+
+fn draw_loads(m: &mut [u64]) {
+    let mut i: u64 = 0;
+    while i < 128 {
+        draw_load(m, i);
+        i += 1;
+    }
+}
+
+pub fn draw_model(m: &mut [u64]) {
+    clear(m, WINDOWS, 8);
+    let centres = draw_within(m, 0);
+    put(m, CENTRES, 0, centres);
+    let chains = draw_within(m, 2);
+    put(m, CHAINS, 0, chains);
+    draw_chains(m);
+    draw_loads(m);
+    let chance = draw(m, 0, 1000);
+    put(m, CHANCE, 0, chance);
+}
+
+// The least and the most centres, chains, windows and loads, the sixteenths, and 1 for models on both sides of 2^64. Drawing begins anew.
+pub fn set_shape(m: &mut [u64], shape: [u64; 10]) {
+    put(m, SEED, 0, 1);
+    let mut i: usize = 0;
+    while i < 10 {
+        put(m, SHAPE, i as u64, shape[i]);
+        i += 1;
+    }
+}
+
+// A load of one of two chains at a centre, which becomes the chain's home.
+fn give_load(m: &mut [u64], i: u64, load: u64) {
+    if load == 0 {
+        return;
+    }
+    put(m, LOADS, plus(times(i / 2, 8), i % 2), load);
+    put(m, HOMES, i % 2, i / 2);
+}
+
+fn give_loads(m: &mut [u64], given: [u64; 10]) {
+    let mut i: usize = 4;
+    while i < 10 {
+        give_load(m, i as u64 - 4, given[i]);
+        i += 1;
+    }
+}
+
+// A model of at most two chains and three centres: how many of each, the windows, and the loads of each centre.
+pub fn give_model(m: &mut [u64], given: [u64; 10]) {
+    clear(m, WINDOWS, 8);
+    clear(m, LOADS, 128);
+    put(m, CENTRES, 0, given[0]);
+    put(m, CHAINS, 0, given[1]);
+    put(m, WINDOWS, 0, given[2]);
+    put(m, WINDOWS, 1, given[3]);
+    give_loads(m, given);
+}
