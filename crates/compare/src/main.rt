@@ -74,6 +74,6 @@ fn main() {
     let mut area = [7u64; 8193];
     areas::tell_b(&mut m);
     hold_all(&mut m, &mut area);
-    say(b"total:");
+    say(b"models trees runs values large below edges differences:\nall shapes and lines");
     tell_all(&m, TOTAL, COUNTS);
 }
