@@ -61,7 +61,7 @@ fn hold_model(m: &mut [u64], area: &mut [u64]) {
 
 fn hold_all(m: &mut [u64], area: &mut [u64]) {
     let mut j: u64 = 0;
-    while j < 1052 {
+    while j < judge::MODELS {
         judge::begin(m, j);
         hold_model(m, area);
         judge::end(m, j);
@@ -70,10 +70,10 @@ fn hold_all(m: &mut [u64], area: &mut [u64]) {
 }
 
 fn main() {
-    let mut m = [0u64; 8448];
+    let mut m = [0u64; states::memory::LENGTH];
     let mut area = [7u64; 8193];
     areas::tell_b(&mut m);
     hold_all(&mut m, &mut area);
-    say(b"total:");
+    say(b"models trees runs values large below edges differences:\nall shapes and lines");
     tell_all(&m, TOTAL, COUNTS);
 }

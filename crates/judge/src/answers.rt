@@ -33,6 +33,9 @@ fn difference(m: &mut [u64], what: u64, agrees: bool) {
 
 // Where the chain to lower has window 0, the value due is 0.
 fn is_due(r: Run, due: u64) -> bool {
+    if !r.kept {
+        return false;
+    }
     if due == 0 {
         return r.refusal == 11;
     }
@@ -45,10 +48,7 @@ fn is_due(r: Run, due: u64) -> bool {
     if r.done != r.pairs {
         return false;
     }
-    if r.value != due {
-        return false;
-    }
-    r.kept
+    r.value == due
 }
 
 fn tell_plan(m: &[u64], lower: u64, r: Run) {
@@ -130,10 +130,33 @@ fn same_counts(m: &[u64], a: SheetAnswer, r: Run) -> bool {
     a.busiest == busiest(m)
 }
 
+// "A refusal returns zeros beside its number and place."
+fn is_too_large(a: SheetAnswer) -> bool {
+    if a.refusal != 14 {
+        return false;
+    }
+    if a.place != 0 {
+        return false;
+    }
+    if a.value != 0 {
+        return false;
+    }
+    if a.pairs != 0 {
+        return false;
+    }
+    if a.cells != 0 {
+        return false;
+    }
+    if a.chains != 0 {
+        return false;
+    }
+    a.busiest == 0
+}
+
 fn is_sheet(m: &[u64], a: SheetAnswer, r: Run) -> bool {
     let due = at(m, DUES, 0);
     if due == MOST {
-        return a.refusal == 14;
+        return is_too_large(a);
     }
     if a.refusal != 0 {
         return false;

@@ -33,6 +33,30 @@ const WIDE: [u64; 10] = [2, 1, 4, 0, 65535, 0, 1, 0, 0, 0];
 
 const WIDER: [u64; 10] = [2, 1, 4, 0, 65535, 0, 65535, 0, 0, 0];
 
+const NAME_B: [u8; 52] = *b"B ..................................................";
+
+const NAME_B_OTHER: [u8; 52] = *b"B, tree 2 3 join 1 join ............................";
+
+const NAME_TWO: [u8; 52] = *b"2 centres, window 2, loads 1 and 2 .................";
+
+const NAME_BOTH: [u8; 52] = *b"1 centre, windows 2 and 1, loads 2 and 3 ...........";
+
+const NAME_IDLE: [u8; 52] = *b"1 centre, window 0, load 9 .........................";
+
+const NAME_ONCE: [u8; 52] = *b"2 centres, only centre 1 visited, window 3, load 5 .";
+
+const NAME_LARGE_4: [u8; 52] = *b"1 centre, window 4, load 65535 .....................";
+
+const NAME_LARGE_5: [u8; 52] = *b"1 centre, window 5, load 65535 .....................";
+
+const NAME_EXACT: [u8; 52] = *b"1 centre, window 8, load 256 .......................";
+
+const NAME_BELOW: [u8; 52] = *b"1 centre, window 8, load 255 .......................";
+
+const NAME_WIDE: [u8; 52] = *b"2 centres, window 4, loads 65535 and 1 .............";
+
+const NAME_WIDER: [u8; 52] = *b"2 centres, window 4, both loads 65535 ..............";
+
 fn given(i: u64) -> [u64; 10] {
     match i {
         0 | 1 => B,
@@ -49,21 +73,26 @@ fn given(i: u64) -> [u64; 10] {
     }
 }
 
-fn say_line(i: u64) {
+fn name_of(i: u64) -> [u8; 52] {
     match i {
-        0 => say(b"B"),
-        1 => say(b"B, tree 2 3 join 1 join"),
-        2 => say(b"2 centres, window 2, loads 1 and 2"),
-        3 => say(b"1 centre, windows 2 and 1, loads 2 and 3"),
-        4 => say(b"1 centre, window 0, load 9"),
-        5 => say(b"2 centres, only centre 1 visited, window 3, load 5"),
-        6 => say(b"1 centre, window 4, load 65535"),
-        7 => say(b"1 centre, window 5, load 65535"),
-        8 => say(b"1 centre, window 8, load 256"),
-        9 => say(b"1 centre, window 8, load 255"),
-        10 => say(b"2 centres, window 4, loads 65535 and 1"),
-        _ => say(b"2 centres, window 4, both loads 65535"),
+        0 => NAME_B,
+        1 => NAME_B_OTHER,
+        2 => NAME_TWO,
+        3 => NAME_BOTH,
+        4 => NAME_IDLE,
+        5 => NAME_ONCE,
+        6 => NAME_LARGE_4,
+        7 => NAME_LARGE_5,
+        8 => NAME_EXACT,
+        9 => NAME_BELOW,
+        10 => NAME_WIDE,
+        _ => NAME_WIDER,
     }
+}
+
+fn say_line(i: u64) {
+    let name = name_of(i);
+    say(&name);
 }
 
 pub fn give_b(m: &mut [u64]) {

@@ -45,6 +45,32 @@ const FEW_EDGES: [u64; 10] = [3, 6, 1, 3, 5, 7, 1, 99, 2, 1];
 
 const LONG_EDGES: [u64; 10] = [8, 16, 1, 1, 5, 12, 1, 3, 1, 1];
 
+const NAME_ONE: [u8; 30] = *b"one centre                    ";
+
+const NAME_TWO: [u8; 30] = *b"two centres                   ";
+
+const NAME_FEW: [u8; 30] = *b"few centres                   ";
+
+const NAME_LONG: [u8; 30] = *b"long                          ";
+
+const NAME_MANY_CENTRES: [u8; 30] = *b"many centres                  ";
+
+const NAME_MANY_CHAINS: [u8; 30] = *b"many chains                   ";
+
+const NAME_MANY: [u8; 30] = *b"many of both                  ";
+
+const NAME_ALL: [u8; 30] = *b"all sizes                     ";
+
+const NAME_HEAVY: [u8; 30] = *b"heavy loads                   ";
+
+const NAME_ONE_EDGE: [u8; 30] = *b"one centre, both sides of 2^64";
+
+const NAME_TWO_EDGES: [u8; 30] = *b"two centres, both sides       ";
+
+const NAME_FEW_EDGES: [u8; 30] = *b"few centres, both sides       ";
+
+const NAME_LONG_EDGES: [u8; 30] = *b"long, both sides              ";
+
 fn shape_of(i: u64) -> [u64; 10] {
     match i {
         0 => ONE,
@@ -63,22 +89,27 @@ fn shape_of(i: u64) -> [u64; 10] {
     }
 }
 
-fn say_shape(i: u64) {
+fn name_of(i: u64) -> [u8; 30] {
     match i {
-        0 => say(b"shape: models trees runs values large below edges differences\none centre:"),
-        1 => say(b"two centres:"),
-        2 => say(b"few centres:"),
-        3 => say(b"long:"),
-        4 => say(b"many centres:"),
-        5 => say(b"many chains:"),
-        6 => say(b"many of both:"),
-        7 => say(b"all sizes:"),
-        8 => say(b"heavy loads:"),
-        9 => say(b"one centre, both sides of 2^64:"),
-        10 => say(b"two centres, both sides:"),
-        11 => say(b"few centres, both sides:"),
-        _ => say(b"long, both sides:"),
+        0 => NAME_ONE,
+        1 => NAME_TWO,
+        2 => NAME_FEW,
+        3 => NAME_LONG,
+        4 => NAME_MANY_CENTRES,
+        5 => NAME_MANY_CHAINS,
+        6 => NAME_MANY,
+        7 => NAME_ALL,
+        8 => NAME_HEAVY,
+        9 => NAME_ONE_EDGE,
+        10 => NAME_TWO_EDGES,
+        11 => NAME_FEW_EDGES,
+        _ => NAME_LONG_EDGES,
     }
+}
+
+fn say_shape(i: u64) {
+    let name = name_of(i);
+    say(&name);
 }
 
 fn draw_next(m: &mut [u64]) {
