@@ -1,4 +1,1 @@
-pub mod BusiestLaws
-pub mod LoweredLaws
-pub mod NumberedLaws
 pub mod SheetLaws

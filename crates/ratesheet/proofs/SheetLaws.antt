@@ -25,13 +25,14 @@ use Rattle.calls.specs.declared.SheetAnswer.{SheetAnswer}
 use Rattle.calls.proofs.ExactLaws.{room-cells}
 use Rattle.plan.specs.Table.{Tabled}
 use Rattle.plan.specs.declared.Table.{Table}
-use Rattle.ratesheet.specs.Steps.{Kept, fullOf, Numbered, sheetBelow}
+use Rattle.rates.specs.Steps.{Kept, Numbered}
+use Rattle.rates.specs.declared.AllNumerators.{AllNumerators}
+use Rattle.ratesheet.specs.Steps.{fullOf, sheetBelow}
 use Rattle.ratesheet.specs.declared.Full.{Full}
-use Rattle.ratesheet.specs.declared.Numerators.{Numerators}
 
 -- ---- the answer
 
-module _ (m : Model) (n : Numerators) (w : Numbered m n) where
+module _ (m : Model) (n : AllNumerators) (w : Numbered m n) where
   pub answer-large : n .large ≡ true → noSheet 15 0 ≡ sheetBelow m
   unfolding sheetBelow
   answer-large e = rw (sym (w .large-is) ∙ e)

@@ -2,12 +2,13 @@
 ghost use mathlib.Core.Path.{_≡_};
 ghost use Rattle.modelfile.proofs.Guaranteed.{Guaranteed};
 ghost use Rattle.calls.specs.Sheet.{noSheet};
-ghost use Rattle.ratesheet.specs.Steps.{fullOf, Numbered, sheetBelow};
+ghost use Rattle.rates.specs.Steps.{Numbered};
+ghost use Rattle.ratesheet.specs.Steps.{fullOf, sheetBelow};
 use crate::Full;
-use crate::Numerators;
-use crate::busiest::busiest;
+use busiest::busiest;
 use calls::SheetAnswer;
 use modelfile::Model;
+use rates::AllNumerators;
 
 // "A refusal returns zeros beside its number and place."
 pub fn no_sheet(number: u64, place: u64) -> SheetAnswer
@@ -25,7 +26,7 @@ pub fn no_sheet(number: u64, place: u64) -> SheetAnswer
     }
 }
 
-pub fn answer(m: Model, full: Full, n: Numerators) -> SheetAnswer
+pub fn answer(m: Model, full: Full, n: AllNumerators) -> SheetAnswer
     requires { ⌜ Guaranteed m × (full ≡ fullOf m) × Numbered m n ⌝ }
     ensures { λ r. ⌜ r ≡ sheetBelow m ⌝ }
 {

@@ -1,7 +1,5 @@
 // The sheet call: the full model's value, then each chain lowered in turn, over one area that is 0 afterwards.
 mod answers; // answers.rt: the answer from the numbers, and refusals
-mod busiest; // busiest.rt: the centre with the largest sum of loads
-mod lowered; // lowered.rt: a numerator for each chain
 
 ghost use mathlib.Core.Path.{_≡_};
 ghost use Prim.Native.Nat.{_≤_};
@@ -10,16 +8,16 @@ ghost use Rattle.modelfile.specs.Network.{windowsOf};
 ghost use Rattle.modelfile.proofs.Guaranteed.{Guaranteed};
 ghost use Rattle.calls.specs.Asked.{cellsIn, pairsIn};
 ghost use Rattle.calls.specs.Sheet.{sheetIn, sheetOf, sheet};
-ghost use Rattle.ratesheet.specs.Steps.{Kept};
+ghost use Rattle.rates.specs.Steps.{Kept};
 use crate::answers::answer;
 use crate::answers::no_sheet;
-use crate::lowered::numerators;
 use arith::Fits;
 use calls::SheetAnswer;
 use fills::clear;
 use modelfile::Model;
 use modelfile::Verdict;
 use plan::tables::make_table;
+use rates::numerators;
 use runs::no_room;
 use runs::whole::whole_value;
 
@@ -28,18 +26,6 @@ pub struct Full {
     pub value: u64,
     pub pairs: u64,
     pub cells: u64,
-}
-
-// A numerator for each chain, if none is too large.
-pub struct Numerators {
-    pub numbers: [u64; 8],
-    pub large: bool,
-}
-
-// The busiest centre so far, and its sum of loads.
-pub struct Best {
-    pub centre: usize,
-    pub most: u64,
 }
 
 // The runs; `cells` and `pairs` are the full model's.

@@ -1,7 +1,7 @@
 -- `run` meets its contract: 14 where the full model's value is too large, else the answer with the numerators.
 use mathlib.Core.Path.{_∙_}
 use Rattle.modelfile.specs.Network.{windowsOf}
-use Rattle.ratesheet.proofs.LoweredLaws.{kept-then}
+use Rattle.rates.proofs.LoweredLaws.{kept-then}
 use Rattle.ratesheet.proofs.SheetLaws.{full-is, value-exact, value-large, value-kept}
 use borrow.Author.Needs.{needs}
 use Rattle.ratesheet.proofs.run.Statement.{statement}

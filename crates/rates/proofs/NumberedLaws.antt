@@ -24,8 +24,8 @@ use Rattle.calls.specs.Start.{tooLarge}
 use Rattle.calls.specs.Sheet.{numerator, numerators}
 use Rattle.plan.specs.Table.{padded, row}
 use Rattle.plan.proofs.RowLaws.{Rowed, rowed-first, rowed-turn, rowed-last}
-use Rattle.ratesheet.specs.Steps.{Kept, Numbered}
-use Rattle.ratesheet.proofs.LoweredLaws.{numerator-past, kept-same, kept-then}
+use Rattle.rates.specs.Steps.{Kept, Numbered}
+use Rattle.rates.proofs.LoweredLaws.{numerator-past, kept-same, kept-then}
 
 -- ---- a row that is 0 past its end
 

@@ -2,10 +2,10 @@
 use mathlib.Core.Path.{ap, _∙_}
 use native.Mathlib.Omega.{arith}
 use Rattle.arith.specs.Capped.{capped}
-use Rattle.ratesheet.proofs.LoweredLaws.{kept-same, kept-more, not-run, run-cells, run-value}
+use Rattle.rates.proofs.LoweredLaws.{kept-same, kept-more, not-run, run-cells, run-value}
 use borrow.Author.Needs.{needs}
-use Rattle.ratesheet.proofs.lowered.numerator.Statement.{statement}
-use Rattle.ratesheet.proofs.lowered.numerator.Tie as tie
+use Rattle.rates.proofs.numerator.Statement.{statement}
+use Rattle.rates.proofs.numerator.Tie as tie
 
 lowered-requires : tie.Need-lowered-requires
 lowered-requires c κs = search needs

@@ -1,8 +1,8 @@
 -- `better` meets its contract: the test is the definition's.
 use borrow.Author.Tests.{lt-ltb, le-ltb}
-use Rattle.ratesheet.specs.Steps.{better}
-use Rattle.ratesheet.proofs.busiest.better.Statement.{statement}
-use Rattle.ratesheet.proofs.busiest.better.Tie as tie
+use Rattle.busiest.specs.Steps.{better}
+use Rattle.busiest.proofs.better.Statement.{statement}
+use Rattle.busiest.proofs.better.Tie as tie
 
 returns : tie.Need-returns
 unfolding better

@@ -8,13 +8,18 @@ ghost use Rattle.arith.specs.Capped.{capped};
 ghost use Rattle.binomials.specs.Rows.{rows as rowsOf};
 ghost use Rattle.calls.specs.Asked.{cellsIn};
 ghost use Rattle.calls.specs.Sheet.{numerator};
-ghost use Rattle.ratesheet.specs.Steps.{Kept, Numbered};
-use crate::Numerators;
+ghost use Rattle.rates.specs.Steps.{Kept, Numbered};
 use arith::Fits;
 use modelfile::Model;
 use plan::Asked;
 use plan::windows::lowered;
 use runs::whole::whole_value;
+
+// A numerator for each chain, if none is too large.
+pub struct AllNumerators {
+    pub numbers: [u64; 8],
+    pub large: bool,
+}
 
 // "A chain with window 0 has numerator 0 and isn't run."
 fn numerator(rows: &[u64], m: Model, chain: u64, area: &mut [u64]) -> Fits
@@ -36,7 +41,7 @@ fn numerator(rows: &[u64], m: Model, chain: u64, area: &mut [u64]) -> Fits
 }
 
 // Up to the first that is too large.
-pub fn numerators(rows: &[u64], m: Model, area: &mut [u64]) -> Numerators
+pub fn numerators(rows: &[u64], m: Model, area: &mut [u64]) -> AllNumerators
     requires { ⌜ now rows ≡ rowsOf ⌝ }
     requires { ⌜ Guaranteed m × (cellsIn m (windowsOf m) ≤ length (now area)) ⌝ }
     ensures { λ r. ⌜ Numbered m r ⌝ }
@@ -51,14 +56,14 @@ pub fn numerators(rows: &[u64], m: Model, area: &mut [u64]) -> Numerators
                 k += 1;
             }
             Fits::TooLarge => {
-                return Numerators {
+                return AllNumerators {
                     numbers,
                     large: true,
                 };
             }
         }
     }
-    Numerators {
+    AllNumerators {
         numbers,
         large: false,
     }

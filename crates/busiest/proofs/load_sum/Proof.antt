@@ -1,10 +1,10 @@
 -- `load_sum` meets its contract. The loop's invariant: the loads of the first k chains are added, each at most 65535 (`Summed`).
 use Prim.Native.Nat.{_+_, _-_, _*_}
 use native.Mathlib.Omega.{arith}
-use Rattle.ratesheet.proofs.BusiestLaws.{Summed, summed-first, summed-turn, summed-last}
+use Rattle.busiest.proofs.BusiestLaws.{Summed, summed-first, summed-turn, summed-last}
 use borrow.Author.Needs.{needs}
-use Rattle.ratesheet.proofs.busiest.load_sum.Statement.{statement}
-use Rattle.ratesheet.proofs.busiest.load_sum.Tie as tie
+use Rattle.busiest.proofs.load_sum.Statement.{statement}
+use Rattle.busiest.proofs.load_sum.Tie as tie
 
 abbrev Inv-loop : tie.InvT-loop
 Inv-loop m centre loads first sum₀ k₀ sum k = Summed m centre sum k

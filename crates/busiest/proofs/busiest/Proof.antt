@@ -1,10 +1,10 @@
 -- `busiest` meets its contract. The loop's invariant: `best` is the first of the largest among the centres before c (`Busy`).
 use Prim.Native.Nat.{_-_, _+_}
 use native.Mathlib.Omega.{arith}
-use Rattle.ratesheet.proofs.BusiestLaws.{Busy, busy-first, busy-turn, busy-last}
+use Rattle.busiest.proofs.BusiestLaws.{Busy, busy-first, busy-turn, busy-last}
 use borrow.Author.Needs.{needs}
-use Rattle.ratesheet.proofs.busiest.busiest.Statement.{statement}
-use Rattle.ratesheet.proofs.busiest.busiest.Tie as tie
+use Rattle.busiest.proofs.busiest.Statement.{statement}
+use Rattle.busiest.proofs.busiest.Tie as tie
 
 abbrev Inv-loop : tie.InvT-loop
 Inv-loop m best₀ c₀ best c = Busy m best c

@@ -2,11 +2,11 @@
 -- (`Lowerings`).
 use Prim.Native.Nat.{_-_}
 use native.Mathlib.Omega.{arith}
-use Rattle.ratesheet.proofs.LoweredLaws.{kept-then}
-use Rattle.ratesheet.proofs.NumberedLaws.{Lowerings, lowerings-first, lowerings-turn, lowerings-stop, lowerings-last}
+use Rattle.rates.proofs.LoweredLaws.{kept-then}
+use Rattle.rates.proofs.NumberedLaws.{Lowerings, lowerings-first, lowerings-turn, lowerings-stop, lowerings-last}
 use borrow.Author.Needs.{needs}
-use Rattle.ratesheet.proofs.lowered.numerators.Statement.{statement}
-use Rattle.ratesheet.proofs.lowered.numerators.Tie as tie
+use Rattle.rates.proofs.numerators.Statement.{statement}
+use Rattle.rates.proofs.numerators.Tie as tie
 
 abbrev Inv-loop : tie.InvT-loop
 Inv-loop rows m area₀ numbers₀ k₀ area numbers k = Lowerings m area₀ area numbers k

@@ -20,8 +20,8 @@ use Rattle.modelfile.specs.declared.Model.{Model}
 use Rattle.modelfile.proofs.Guaranteed.{Guaranteed}
 use Rattle.calls.specs.Sheet.{loadSum, largest, firstWith, busiest}
 use Rattle.plan.proofs.RowLaws.{from-more}
-use Rattle.ratesheet.specs.Steps.{better}
-use Rattle.ratesheet.specs.declared.Best.{Best}
+use Rattle.busiest.specs.Steps.{better}
+use Rattle.busiest.specs.declared.Best.{Best}
 
 -- ---- the first of the largest
 

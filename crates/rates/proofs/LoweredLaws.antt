@@ -25,7 +25,7 @@ use Rattle.calls.proofs.Demand2.{lowering-value}
 use Rattle.plan.specs.Lowered.{askedOf, Lowered}
 use Rattle.plan.specs.declared.Asked.{Asked}
 use Rattle.plan.specs.declared.Lowering.{Lowering}
-use Rattle.ratesheet.specs.Steps.{Kept}
+use Rattle.rates.specs.Steps.{Kept}
 
 -- ---- what is kept
 

@@ -3,9 +3,14 @@ ghost use mathlib.Core.Path.{_≡_};
 ghost use Prim.Native.Nat.{_+_, _≤_, _<_};
 ghost use Rattle.modelfile.proofs.Guaranteed.{Guaranteed};
 ghost use Rattle.calls.specs.Sheet.{loadSum, busiest};
-ghost use Rattle.ratesheet.specs.Steps.{better};
-use crate::Best;
+ghost use Rattle.busiest.specs.Steps.{better};
 use modelfile::Model;
+
+// The busiest centre so far, and its sum of loads.
+pub struct Best {
+    pub centre: usize,
+    pub most: u64,
+}
 
 // The sum of a centre's loads.
 fn load_sum(m: Model, centre: usize) -> u64
