@@ -91,24 +91,14 @@ fn walk_rows(
     e
 }
 
-// The same over copies, field by field: what a call takes by address stays in memory, and the loop over the cells is to keep its own in
-// registers.
-fn one_by_one(
-    area: &mut [u64],
-    join: Join,
-    rows: &[usize],
-    l: usize,
-    r: usize,
-    t: usize,
-    q: Quota,
-) -> Quota
-    requires { ⌜ Inside (length (now area)) join (now rows) l r t ⌝ }
-    ensures { λ e. ⌜ state e (now (area .exit)) ≡ walk (cellPairs join (now (rows .entry)) l r t) (state q (now (area .entry))) ⌝ }
+// A join anew, field by field.
+fn copied(join: Join) -> Join
+    ensures { λ x. ⌜ x ≡ join ⌝ }
 {
     let left = join.left;
     let right = join.right;
     let own = join.own;
-    let copy = Join {
+    Join {
         left: Part {
             from: left.from,
             to: left.to,
@@ -121,20 +111,28 @@ fn one_by_one(
             from: own.from,
             to: own.to,
         },
+    }
+}
+
+// The same over copies: what a call takes by address stays in memory, and the loop over the cells is to keep its own in registers.
+fn one_by_one(
+    area: &mut [u64],
+    join: Join,
+    rows: &[usize],
+    l: usize,
+    r: usize,
+    t: usize,
+    q: Quota,
+) -> Quota
+    requires { ⌜ Inside (length (now area)) join (now rows) l r t ⌝ }
+    ensures { λ e. ⌜ state e (now (area .exit)) ≡ walk (cellPairs join (now (rows .entry)) l r t) (state q (now (area .entry))) ⌝ }
+{
+    let copy = Quota {
+        skip: q.skip,
+        budget: q.budget,
+        over: q.over,
     };
-    let e = walk_rows(
-        area,
-        copy,
-        rows,
-        l,
-        r,
-        t,
-        Quota {
-            skip: q.skip,
-            budget: q.budget,
-            over: q.over,
-        },
-    );
+    let e = walk_rows(area, copied(join), rows, l, r, t, copy);
     Quota {
         skip: e.skip,
         budget: e.budget,
