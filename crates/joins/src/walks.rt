@@ -113,7 +113,8 @@ fn copied(join: Join) -> Join
     }
 }
 
-// The same over copies: what a call takes by address stays in memory, and the loop over the cells is to keep its own in registers.
+// The same as walk_rows, over copies: what a call takes by address stays in memory, and the loop over the cells is to keep its own in
+// registers.
 fn one_by_one(
     area: &mut [u64],
     join: Join,
