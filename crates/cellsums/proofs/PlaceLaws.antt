@@ -8,8 +8,9 @@ use lib.ListN.{length, getD, take, drop}
 use lib.Seq.{take-all}
 use Rattle.sums.specs.Sums.{sumOver}
 use Rattle.arith.specs.Capped.{capped}
-use Rattle.cellsums.specs.Places.{places, reachLeft, reachRight, cellsIn, product, Within}
+use Rattle.cellsums.specs.Places.{places, rowThen, rowAt, reachLeft, reachRight, cellsIn, product, Within}
 use Rattle.cellsums.specs.declared.Part.{Part}
+use Rattle.cellsums.specs.declared.Row.{Row}
 
 steps : (n j a : ℕ) → j < n → (j * a ≤ (n - 1) * a) × ((n - 1 - j) * a ≤ (n - 1) * a)
 steps n j a h = (mul-le-mul-right a (omega arith), mul-le-mul-right a (omega arith))
@@ -58,24 +59,24 @@ no-row (n ∷ []) l r h = refl
 no-row (n ∷ a ∷ []) l r h = refl
 no-row (n ∷ a ∷ b ∷ rows) l r h = absurd (omega arith)
 
-pub first-row : (rows : List ℕ) → 3 ≤ length rows → rows ≡ getD rows 0 0 ∷ getD rows 1 0 ∷ getD rows 2 0 ∷ take (length rows - 3) (drop 3 rows)
-first-row [] h = absurd (omega arith)
-first-row (n ∷ []) h = absurd (omega arith)
-first-row (n ∷ a ∷ []) h = absurd (omega arith)
-first-row (n ∷ a ∷ b ∷ rows) h = ap (λ t. n ∷ a ∷ b ∷ t) (sym (take-all (suc (suc (suc (length rows))) - 3) rows (omega arith)))
+pub first-row : (rows : List ℕ) {row : Row} → row ≡ rowAt rows 0 → 3 ≤ length rows → rows ≡ rowThen row (take (length rows - 3) (drop 3 rows))
+first-row [] e h = absurd (omega arith)
+first-row (n ∷ []) e h = absurd (omega arith)
+first-row (n ∷ a ∷ []) e h = absurd (omega arith)
+first-row (n ∷ a ∷ b ∷ rows) e h = rw e (ap (λ t. n ∷ a ∷ b ∷ t) (sym (take-all (suc (suc (suc (length rows))) - 3) rows (omega arith))))
 
-pub last-row : (rows : List ℕ) → length rows ≡ 3 → rows ≡ getD rows 0 0 ∷ getD rows 1 0 ∷ getD rows 2 0 ∷ []
-last-row [] h = absurd (omega arith)
-last-row (n ∷ []) h = absurd (omega arith)
-last-row (n ∷ a ∷ []) h = absurd (omega arith)
-last-row (n ∷ a ∷ b ∷ []) h = refl
-last-row (n ∷ a ∷ b ∷ x ∷ rows) h = absurd (omega arith)
+pub last-row : (rows : List ℕ) {row : Row} → row ≡ rowAt rows 0 → length rows ≡ 3 → rows ≡ rowThen row []
+last-row [] e h = absurd (omega arith)
+last-row (n ∷ []) e h = absurd (omega arith)
+last-row (n ∷ a ∷ []) e h = absurd (omega arith)
+last-row (n ∷ a ∷ b ∷ []) e h = rw e refl
+last-row (n ∷ a ∷ b ∷ x ∷ rows) e h = absurd (omega arith)
 
-pub last-rows : (rows : List ℕ) → length rows ≡ 6 → rows ≡ getD rows 0 0 ∷ getD rows 1 0 ∷ getD rows 2 0 ∷ getD rows 3 0 ∷ getD rows 4 0 ∷ getD rows 5 0 ∷ []
-last-rows [] h = absurd (omega arith)
-last-rows (n ∷ []) h = absurd (omega arith)
-last-rows (n ∷ a ∷ []) h = absurd (omega arith)
-last-rows (n ∷ a ∷ b ∷ rows) h = ap (λ t. n ∷ a ∷ b ∷ t) (last-row rows (omega arith))
+pub last-rows : (rows : List ℕ) {row last : Row} → row ≡ rowAt rows 0 → last ≡ rowAt rows 3 → length rows ≡ 6 → rows ≡ rowThen row (rowThen last [])
+last-rows [] e f h = absurd (omega arith)
+last-rows (n ∷ []) e f h = absurd (omega arith)
+last-rows (n ∷ a ∷ []) e f h = absurd (omega arith)
+last-rows (n ∷ a ∷ b ∷ rows) e f h = rw e (ap (λ t. n ∷ a ∷ b ∷ t) (last-row rows f (omega arith)))
 
 -- ---- what the sums of equal lists of rows are
 

@@ -10,6 +10,9 @@ use Rattle.cellsums.specs.declared.Row.{Row}
 abbrev pub rowThen : Row → List ℕ → List ℕ
 rowThen row rows = row .count ∷ row .left ∷ row .right ∷ rows
 
+abbrev pub rowAt : List ℕ → ℕ → Row
+rowAt rows p = record { count = getD rows p 0; left = getD rows (p + 1) 0; right = getD rows (p + 2) 0 }
+
 -- "the left index is j and the right is i - j": as j goes up the left place grows, and the right one falls
 unfoldable pub places : List ℕ → ℕ → ℕ → List (ℕ × ℕ)
 places [] l r = (l, r) ∷ []

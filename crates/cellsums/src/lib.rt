@@ -3,11 +3,11 @@
 use arith::Fits;
 ghost use mathlib.Core.Path.{_≡_};
 ghost use mathlib.Core.List.{[]};
-ghost use Prim.Native.Nat.{_+_, _<_};
+ghost use Prim.Native.Nat.{_+_, _≤_, _<_};
 ghost use lib.ListN.{length, getD};
 ghost use Rattle.sums.specs.Sums.{sumOver};
 ghost use Rattle.arith.specs.Capped.{capped};
-ghost use Rattle.cellsums.specs.Places.{places, rowThen, product, Within};
+ghost use Rattle.cellsums.specs.Places.{places, rowThen, rowAt, product, Within};
 
 // A node's cells in the area.
 pub struct Part {
@@ -106,6 +106,18 @@ pub fn add_two_rows(
     Fits::Exact(sum)
 }
 
+// The row at a place of a flat list.
+fn row_at(rows: &[usize], at: usize) -> Row
+    requires { ⌜ at + 3 ≤ length (now rows) ⌝ }
+    ensures { λ row. ⌜ row ≡ rowAt (now (rows .entry)) at ⌝ }
+{
+    Row {
+        count: rows[at],
+        left: rows[at + 1],
+        right: rows[at + 2],
+    }
+}
+
 // Any number of rows, flat, three numbers a row.
 pub fn add_rows(
     area: &[u64],
@@ -122,57 +134,19 @@ pub fn add_rows(
     if rows.len() < 3 {
         return add_pair(area, left, right, l, r, acc);
     }
-    let n = rows[0];
-    let a = rows[1];
-    let b = rows[2];
-    if rows.len() == 3 {
-        return add_row(
-            area,
-            left,
-            right,
-            Row {
-                count: n,
-                left: a,
-                right: b,
-            },
-            l,
-            r,
-            acc,
-        );
-    }
+    let row = row_at(rows, 0);
     if rows.len() == 6 {
-        let last = Row {
-            count: rows[3],
-            left: rows[4],
-            right: rows[5],
-        };
-        return add_two_rows(
-            area,
-            left,
-            right,
-            Row {
-                count: n,
-                left: a,
-                right: b,
-            },
-            last,
-            l,
-            r,
-            acc,
-        );
+        let last = row_at(rows, 3);
+        return add_two_rows(area, left, right, row, last, l, r, acc);
     }
+    let n = row.count;
+    let a = row.left;
+    let b = row.right;
     let mut sum = acc;
     let mut j: usize = 0;
     while j < n {
-        match add_rows(
-            area,
-            left,
-            right,
-            &rows[3..],
-            l + j * a,
-            r + (n - 1 - j) * b,
-            sum,
-        ) {
+        let k = n - 1 - j;
+        match add_rows(area, left, right, &rows[3..], l + j * a, r + k * b, sum) {
             Fits::Exact(v) => {
                 sum = v;
             }
@@ -202,12 +176,7 @@ pub fn cell_sum(
         return add_pair(area, left, right, l, r, acc);
     }
     if rows.len() == 3 {
-        let row = Row {
-            count: rows[0],
-            left: rows[1],
-            right: rows[2],
-        };
-        return add_row(area, left, right, row, l, r, acc);
+        return add_row(area, left, right, row_at(rows, 0), l, r, acc);
     }
     add_rows(area, left, right, rows, l, r, acc)
 }

@@ -2,7 +2,7 @@
 -- are appended, and the arrays hold eight chains.
 use Prim.Native.Nat.{ℕ, suc, _+_, _*_, _^_, _≤_, _<_}
 use mathlib.Core.Path.{_≡_, refl, sym, ap, _∙_}
-use mathlib.Core.Bool.{true, false, _&&_}
+use mathlib.Core.Bool.{true, false}
 use mathlib.Core.List.{List, [], _∷_, _++_, append-assoc}
 use native.Mathlib.Nat.{pow-suc, pow-le-pow-right, mul-le-mul}
 use native.Mathlib.Numerals.{add-one}
@@ -11,7 +11,7 @@ use borrow.Author.Tests.{lt-ltb, le-ltb}
 use lib.Dec.{ltb}
 use lib.ListN.{length, getD, set, take, drop, length-set, length-take, drop-of-length-le}
 use lib.Seq.{take-suc-set, drop-cons}
-use Rattle.joins.specs.Flat.{withChain, addChain, addChains, flat, nothing, Chains, Room, Grown}
+use Rattle.joins.specs.Flat.{Flat, withChain, addChain, addChains, flat, nothing, Chains, Room, Grown}
 use Rattle.joins.specs.declared.Used.{Used}
 
 -- ---- numbers written one after the other
@@ -36,35 +36,48 @@ module _ (L : List ℕ) (at : ℕ) where
 
 -- ---- one chain
 
+none : (x : ℕ) → x ≡ 0 → ltb 0 x ≡ false
+none x e = le-ltb 0 x (omega arith)
+
+some : (x : ℕ) → (x ≡ 0 → ⊥) → ltb 0 x ≡ true
+some x h = lt-ltb 0 x (omega (arith, h))
+
 module _ (u : Used) (L R : List ℕ) (n a b c : ℕ) where
   used-rows : u .rows ≤ length R → u .rows ≡ length (take (u .rows) R)
   used-rows h = sym (length-take (u .rows) R ∙ omega arith)
 
-  pub shared-partial : (L' R' : List ℕ) → 0 < c → u .rows ≤ length R → take (u .loops + 5) L' ≡ take (u .loops) L ++ ((n + 1) ∷ u .rows ∷ 0 ∷ 0 ∷ c ∷ []) → take (u .rows + 3) R' ≡ take (u .rows) R ++ (1 ∷ a ∷ b ∷ [])
-      → flat (record { loops = u .loops + 5; rows = u .rows + 3; count = u .count }) L' R' ≡ withChain true (ltb 0 c) (flat u L R) n a b c
+  pub shared-added : (L' R' : List ℕ) → u .rows ≤ length R → take (u .loops + 5) L' ≡ take (u .loops) L ++ ((n + 1) ∷ u .rows ∷ 0 ∷ 0 ∷ c ∷ []) → take (u .rows + 3) R' ≡ take (u .rows) R ++ (1 ∷ a ∷ b ∷ [])
+      → flat (record { loops = u .loops + 5; rows = u .rows + 3; count = u .count }) L' R' ≡ withChain true true (flat u L R) n a b c
   unfolding withChain
-  shared-partial L' R' h k e f = rw (lt-ltb 0 c h) (λ i. record { loops = (e ∙ ap (λ x. take (u .loops) L ++ ((n + 1) ∷ x ∷ 0 ∷ 0 ∷ c ∷ [])) (used-rows k)) i; rows = f i; count = u .count })
+  shared-added L' R' k e f = λ i. record { loops = (e ∙ ap (λ x. take (u .loops) L ++ ((n + 1) ∷ x ∷ 0 ∷ 0 ∷ c ∷ [])) (used-rows k)) i; rows = f i; count = u .count }
 
-  pub shared-finished : (R' : List ℕ) → c ≤ 0 → take (u .rows + 3) R' ≡ take (u .rows) R ++ ((n + 1) ∷ a ∷ b ∷ []) → flat (record { loops = u .loops; rows = u .rows + 3; count = u .count * (n + 1) }) L R' ≡ withChain true (ltb 0 c) (flat u L R) n a b c
+  pub closed-added : (R' : List ℕ) → take (u .rows + 3) R' ≡ take (u .rows) R ++ ((n + 1) ∷ a ∷ b ∷ []) → flat (record { loops = u .loops; rows = u .rows + 3; count = u .count * (n + 1) }) L R' ≡ withChain true false (flat u L R) n a b c
   unfolding withChain
-  shared-finished R' h f = rw (le-ltb 0 c h) (λ i. record { loops = take (u .loops) L; rows = f i; count = u .count * (n + 1) })
+  closed-added R' f = λ i. record { loops = take (u .loops) L; rows = f i; count = u .count * (n + 1) }
 
-  pub single-partial : (L' : List ℕ) → 0 < c → take (u .loops + 5) L' ≡ take (u .loops) L ++ ((n + 1) ∷ 24 ∷ a ∷ b ∷ c ∷ []) → flat (record { loops = u .loops + 5; rows = u .rows; count = u .count }) L' R ≡ withChain false (ltb 0 c) (flat u L R) n a b c
+  pub single-added : (L' : List ℕ) → (c ≡ 0 → ⊥) → take (u .loops + 5) L' ≡ take (u .loops) L ++ ((n + 1) ∷ 24 ∷ a ∷ b ∷ c ∷ []) → flat (record { loops = u .loops + 5; rows = u .rows; count = u .count }) L' R ≡ withChain false (ltb 0 c) (flat u L R) n a b c
   unfolding withChain
-  single-partial L' h e = rw (lt-ltb 0 c h) (λ i. record { loops = e i; rows = take (u .rows) R; count = u .count })
+  single-added L' h e = rw (some c h) (λ i. record { loops = e i; rows = take (u .rows) R; count = u .count })
 
-  pub single-none : c ≤ 0 → flat u L R ≡ withChain false (ltb 0 c) (flat u L R) n a b c
+  pub single-none : c ≡ 0 → flat u L R ≡ withChain false (ltb 0 c) (flat u L R) n a b c
   unfolding withChain
-  single-none h = rw (le-ltb 0 c h)
+  single-none h = rw (none c h)
 
-pub no-left : (a b : ℕ) → a ≡ 0 → false ≡ ltb 0 a && ltb 0 b
-no-left a b e = rw (le-ltb 0 a (omega arith))
+-- ---- which chain it is
 
-pub no-right : (a b : ℕ) → (a ≡ 0 → ⊥) → b ≡ 0 → false ≡ ltb 0 a && ltb 0 b
-no-right a b h e = let k : 0 < a = omega (arith, h) in rw (lt-ltb 0 a k, le-ltb 0 b (omega arith))
+module _ (f : Flat) (n a b c : ℕ) where
+  pub no-left : a ≡ 0 → withChain false (ltb 0 c) f n a b c ≡ addChain f n a b c
+  no-left h = rw (none a h)
 
-pub two-strides : (a b : ℕ) → (a ≡ 0 → ⊥) → (b ≡ 0 → ⊥) → true ≡ ltb 0 a && ltb 0 b
-two-strides a b h k = let x : 0 < a = omega (arith, h) in let y : 0 < b = omega (arith, k) in rw (lt-ltb 0 a x, lt-ltb 0 b y)
+  module _ (h : a ≡ 0 → ⊥) where
+    pub no-right : b ≡ 0 → withChain false (ltb 0 c) f n a b c ≡ addChain f n a b c
+    no-right k = rw (some a h, none b k)
+
+    pub closed : (b ≡ 0 → ⊥) → c ≡ 0 → withChain true false f n a b 0 ≡ addChain f n a b c
+    closed k e = rw (some a h, some b k, e)
+
+    pub still-shared : (b ≡ 0 → ⊥) → (c ≡ 0 → ⊥) → withChain true true f n a b c ≡ addChain f n a b c
+    still-shared k e = rw (some a h, some b k, some c e)
 
 pub grown-more : (u : Used) (n loops rows : ℕ) → loops ≤ u .loops + 5 → rows ≤ u .rows + 3 → Grown u (record { loops = loops; rows = rows; count = u .count }) n
 grown-more u n loops rows h k = record { loops = h; rows = k; count = omega arith }

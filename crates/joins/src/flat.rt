@@ -6,7 +6,7 @@ use cellsums::Row;
 ghost use mathlib.Core.Path.{_≡_};
 ghost use mathlib.Core.Bool.{true, false};
 ghost use mathlib.Core.List.{List, [], _++_};
-ghost use Prim.Native.Nat.{ℕ, _+_, _≤_};
+ghost use Prim.Native.Nat.{ℕ, _+_, _*_, _^_, _≤_, _<_};
 ghost use lib.Dec.{ltb};
 ghost use lib.ListN.{length, take};
 ghost use Rattle.cellsums.specs.Places.{rowThen};
@@ -33,7 +33,7 @@ fn write_row(rows: &mut [usize], at: usize, row: Row)
     rows[at + 2] = row.right;
 }
 
-// A chain that is partial in both children: a row, whose count a loop sets where the chain is still partial at the join.
+// A chain that is partial in both children and at the join: a row, whose count a loop sets.
 fn add_shared(
     loops: &mut [usize],
     rows: &mut [usize],
@@ -44,51 +44,47 @@ fn add_shared(
     c: usize,
 ) -> Used
     requires { ⌜ Room u n (length (now loops)) (length (now rows)) ⌝ }
-    ensures { λ v. ⌜ (flat v (now (loops .exit)) (now (rows .exit)) ≡ withChain true (ltb 0 c) (flat u (now (loops .entry)) (now (rows .entry))) n a b c) × Grown u v n ⌝ }
+    ensures { λ v. ⌜ (flat v (now (loops .exit)) (now (rows .exit)) ≡ withChain true true (flat u (now (loops .entry)) (now (rows .entry))) n a b c) × Grown u v n ⌝ }
 {
     let at = u.loops;
     let row = u.rows;
-    let count = u.count;
-    if 0 < c {
-        write_loop(
-            loops,
-            at,
-            Loop {
-                count: n + 1,
-                row: row,
-                left: 0,
-                right: 0,
-                own: c,
-            },
-        );
-        write_row(
-            rows,
-            row,
-            Row {
-                count: 1,
-                left: a,
-                right: b,
-            },
-        );
-        return Used {
-            loops: at + 5,
-            rows: row + 3,
-            count: count,
-        };
-    }
-    write_row(
-        rows,
-        row,
-        Row {
-            count: n + 1,
-            left: a,
-            right: b,
-        },
-    );
+    let one = Loop {
+        count: n + 1,
+        row: row,
+        left: 0,
+        right: 0,
+        own: c,
+    };
+    let pairs = Row {
+        count: 1,
+        left: a,
+        right: b,
+    };
+    write_loop(loops, at, one);
+    write_row(rows, row, pairs);
     Used {
-        loops: at,
+        loops: at + 5,
         rows: row + 3,
-        count: count * (n + 1),
+        count: u.count,
+    }
+}
+
+// A chain that is partial in both children and finished at the join: a row.
+fn add_closed(rows: &mut [usize], u: Used, n: usize, a: usize, b: usize) -> Used
+    requires { ⌜ (u .rows + 3 ≤ length (now rows)) × (n ≤ 15) × (u .count * (n + 1) < 2 ^ 64) ⌝ }
+    ensures { λ v. ⌜ ((loops : List ℕ) → flat v loops (now (rows .exit)) ≡ withChain true false (flat u loops (now (rows .entry))) n a b 0) × Grown u v n ⌝ }
+{
+    let row = u.rows;
+    let pairs = Row {
+        count: n + 1,
+        left: a,
+        right: b,
+    };
+    write_row(rows, row, pairs);
+    Used {
+        loops: u.loops,
+        rows: row + 3,
+        count: u.count * (n + 1),
     }
 }
 
@@ -97,31 +93,22 @@ fn add_single(loops: &mut [usize], u: Used, n: usize, a: usize, b: usize, c: usi
     requires { ⌜ (u .loops + 5 ≤ length (now loops)) × (n ≤ 15) ⌝ }
     ensures { λ v. ⌜ ((rows : List ℕ) → flat v (now (loops .exit)) rows ≡ withChain false (ltb 0 c) (flat u (now (loops .entry)) rows) n a b c) × Grown u v n ⌝ }
 {
-    let at = u.loops;
-    let row = u.rows;
-    let count = u.count;
-    if 0 < c {
-        write_loop(
-            loops,
-            at,
-            Loop {
-                count: n + 1,
-                row: 24,
-                left: a,
-                right: b,
-                own: c,
-            },
-        );
-        return Used {
-            loops: at + 5,
-            rows: row,
-            count: count,
-        };
+    if c == 0 {
+        return u;
     }
+    let at = u.loops;
+    let one = Loop {
+        count: n + 1,
+        row: 24,
+        left: a,
+        right: b,
+        own: c,
+    };
+    write_loop(loops, at, one);
     Used {
-        loops: at,
-        rows: row,
-        count: count,
+        loops: at + 5,
+        rows: u.rows,
+        count: u.count,
     }
 }
 
@@ -142,6 +129,9 @@ fn add_chain(
     }
     if b == 0 {
         return add_single(loops, u, n, a, b, c);
+    }
+    if c == 0 {
+        return add_closed(rows, u, n, a, b);
     }
     add_shared(loops, rows, u, n, a, b, c)
 }

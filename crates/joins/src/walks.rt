@@ -12,7 +12,7 @@ ghost use Prim.Native.Nat.{_<_, _^_};
 ghost use lib.Dec.{ltb};
 ghost use lib.ListN.{length, getD, set};
 ghost use Rattle.cellsums.specs.Places.{places};
-ghost use Rattle.joins.specs.Walk.{state, walk};
+ghost use Rattle.joins.specs.Walk.{state, walk, quota};
 ghost use Rattle.joins.specs.Loops.{cellPairs, loopThen, firstLoop, loopPairs, Inside, times as timesOf, turnAt, Numbers, Sound};
 
 fn put(own: &mut [u64], i: usize, v: u64)
@@ -20,6 +20,17 @@ fn put(own: &mut [u64], i: usize, v: u64)
     ensures { λ _. ⌜ now (own .exit) ≡ set (now (own .entry)) i v ⌝ }
 {
     own[i] = v;
+}
+
+// What is left to skip and to add.
+fn remaining(skip: usize, budget: usize, over: bool) -> Quota
+    ensures { λ e. ⌜ e ≡ quota skip budget over ⌝ }
+{
+    Quota {
+        skip: skip,
+        budget: budget,
+        over: over,
+    }
 }
 
 // One pair: the children lent for reading, then the join's own cells lent on to be written.
@@ -31,11 +42,7 @@ fn walk_pair(area: &mut [u64], join: Join, l: usize, r: usize, t: usize, q: Quot
         return q;
     }
     if 0 < q.skip {
-        return Quota {
-            skip: q.skip - 1,
-            budget: q.budget,
-            over: false,
-        };
+        return remaining(q.skip - 1, q.budget, false);
     }
     if q.budget == 0 {
         return q;
@@ -49,17 +56,9 @@ fn walk_pair(area: &mut [u64], join: Join, l: usize, r: usize, t: usize, q: Quot
     match cellsums::add_pair(area, left, right, l, r, x) {
         Fits::Exact(v) => {
             put(&mut area[t0..t1], t, v);
-            Quota {
-                skip: 0,
-                budget: q.budget - 1,
-                over: false,
-            }
+            remaining(0, q.budget - 1, false)
         }
-        Fits::TooLarge => Quota {
-            skip: 0,
-            budget: q.budget,
-            over: true,
-        },
+        Fits::TooLarge => remaining(0, q.budget, true),
     }
 }
 
@@ -91,7 +90,30 @@ fn walk_rows(
     e
 }
 
-// The same over copies, field by field: what a call takes by address stays in memory, and the loop over the cells is to keep its own in
+// A join anew, field by field.
+fn copied(join: Join) -> Join
+    ensures { λ x. ⌜ x ≡ join ⌝ }
+{
+    let left = join.left;
+    let right = join.right;
+    let own = join.own;
+    Join {
+        left: Part {
+            from: left.from,
+            to: left.to,
+        },
+        right: Part {
+            from: right.from,
+            to: right.to,
+        },
+        own: Part {
+            from: own.from,
+            to: own.to,
+        },
+    }
+}
+
+// The same as walk_rows, over copies: what a call takes by address stays in memory, and the loop over the cells is to keep its own in
 // registers.
 fn one_by_one(
     area: &mut [u64],
@@ -105,41 +127,9 @@ fn one_by_one(
     requires { ⌜ Inside (length (now area)) join (now rows) l r t ⌝ }
     ensures { λ e. ⌜ state e (now (area .exit)) ≡ walk (cellPairs join (now (rows .entry)) l r t) (state q (now (area .entry))) ⌝ }
 {
-    let left = join.left;
-    let right = join.right;
-    let own = join.own;
-    let copy = Join {
-        left: Part {
-            from: left.from,
-            to: left.to,
-        },
-        right: Part {
-            from: right.from,
-            to: right.to,
-        },
-        own: Part {
-            from: own.from,
-            to: own.to,
-        },
-    };
-    let e = walk_rows(
-        area,
-        copy,
-        rows,
-        l,
-        r,
-        t,
-        Quota {
-            skip: q.skip,
-            budget: q.budget,
-            over: q.over,
-        },
-    );
-    Quota {
-        skip: e.skip,
-        budget: e.budget,
-        over: e.over,
-    }
+    let copy = remaining(q.skip, q.budget, q.over);
+    let e = walk_rows(area, copied(join), rows, l, r, t, copy);
+    remaining(e.skip, e.budget, e.over)
 }
 
 // The pairs of a cell: passed over by their number, or summed at once; one by one where skip or budget ends among them or a sum does not
@@ -162,11 +152,7 @@ fn walk_cell(
         return q;
     }
     if count <= q.skip {
-        return Quota {
-            skip: q.skip - count,
-            budget: q.budget,
-            over: false,
-        };
+        return remaining(q.skip - count, q.budget, false);
     }
     if 0 < q.skip {
         return one_by_one(area, join, rows, l, r, t, q);
@@ -183,11 +169,7 @@ fn walk_cell(
     match cellsums::cell_sum(area, left, right, rows, l, r, x) {
         Fits::Exact(v) => {
             put(&mut area[t0..t1], t, v);
-            Quota {
-                skip: 0,
-                budget: q.budget - count,
-                over: false,
-            }
+            remaining(0, q.budget - count, false)
         }
         Fits::TooLarge => one_by_one(area, join, rows, l, r, t, q),
     }

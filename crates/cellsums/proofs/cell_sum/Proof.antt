@@ -11,20 +11,14 @@ add-pair-requires c κs = within-none (c .before .before .before .pre)
 returns : tie.Need-returns
 returns c = c .add-pair .ensures ∙ sum-none _ _ _ _ _ (c .before .if1 .taken)
 
-shared-slice-read-t12 : tie.Need-shared-slice-read-t12
-shared-slice-read-t12 c = search needs
-
-shared-slice-read-t14 : tie.Need-shared-slice-read-t14
-shared-slice-read-t14 c = search needs
-
-shared-slice-read-t16 : tie.Need-shared-slice-read-t16
-shared-slice-read-t16 c = search needs
+row-at-requires : tie.Need-row-at-requires
+row-at-requires c κs = search needs
 
 add-row-requires : tie.Need-add-row-requires
-add-row-requires c κs = within-as (last-row _ (c .before .before .before .if2 .taken)) (c .before .before .before .before .before .before .before .pre)
+add-row-requires c κs = within-as (last-row _ (c .row-at .ensures) (c .before .if2 .taken)) (c .before .before .before .before .before .pre)
 
 returns-2 : tie.Need-returns-2
-returns-2 c = c .add-row .ensures ∙ sum-as _ _ _ _ (last-row _ (c .before .before .before .before .if2 .taken))
+returns-2 c = c .add-row .ensures ∙ sum-as _ _ _ _ (last-row _ (c .before .row-at .ensures) (c .before .before .if2 .taken))
 
 add-rows-requires : tie.Need-add-rows-requires
 add-rows-requires c κs = search needs
@@ -38,9 +32,7 @@ cell-sum-spec =
     (tie.spec
     add-pair-requires
     returns
-    shared-slice-read-t12
-    shared-slice-read-t14
-    shared-slice-read-t16
+    row-at-requires
     add-row-requires
     returns-2
     add-rows-requires

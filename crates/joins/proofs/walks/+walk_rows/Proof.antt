@@ -4,6 +4,7 @@ use mathlib.Core.Path.{_≡_, refl}
 use mathlib.Core.List.{_∷_}
 use native.Mathlib.Omega.{arith}
 use lib.ListN.{length, take, drop, length-take, length-drop}
+use Rattle.cellsums.specs.Places.{rowAt}
 use Rattle.cellsums.proofs.PlaceLaws.{first-row, left-low, right-low}
 use Rattle.joins.specs.Walk.{state}
 use Rattle.joins.specs.Loops.{Inside}
@@ -62,7 +63,8 @@ walk-rows-shared-slice-read-b t c = search needs
 
 walk-rows-loop-holds : (t : ℕ) → walk-rows-lts.Need-loop-holds (calls t) (walk-rows-at t) walk-rows.Post walk-rows-Inv-loop walk-rows-μ-loop
 walk-rows-loop-holds t c =
-    let e = first-row (c .before .before .before .before .before .before .args .rows .now) (omega arith) in
+    let rows = c .before .before .before .before .before .before .args .rows .now in
+    let e = first-row rows {row = rowAt rows 0} refl (omega arith) in
     ((omega arith, omega (arith, c .shared-slice-known4 .given 0), refl), e, inside-as e (c .before .before .before .before .before .before .pre .1), walk-begins _ _ _)
 
 walk-rows-sub-walk-rows : (t : ℕ) → walk-rows-lts.Need-sub-walk-rows (calls t) (walk-rows-at t) walk-rows.Post walk-rows-Inv-loop walk-rows-μ-loop

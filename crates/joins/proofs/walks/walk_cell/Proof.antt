@@ -8,8 +8,11 @@ use Rattle.joins.proofs.walks.walk_cell.Tie as tie
 returns : tie.Need-returns
 returns c = cell-over _ _ _ (c .if1 .taken)
 
+remaining-requires : tie.Need-remaining-requires
+remaining-requires c κs = search needs
+
 returns-2 : tie.Need-returns-2
-returns-2 c = cell-past _ _ _ _ _ _ _ (c .before .before .before .before .before .before .pre .0) refl _ (c .before .before .before .before .before .before .pre .1) _ (c .before .before .before .if1 .left) (c .before .if2 .taken)
+returns-2 c = rw (c .remaining .ensures) (cell-past _ _ _ _ _ _ _ (c .before .before .before .before .before .before .before .pre .0) refl _ (c .before .before .before .before .before .before .before .pre .1) _ (c .before .before .before .before .if1 .left) (c .before .before .if2 .taken))
 
 one-by-one-requires : tie.Need-one-by-one-requires
 one-by-one-requires c κs = search needs
@@ -65,6 +68,9 @@ part-put-end c = search needs
 put-requires : tie.Need-put-requires
 put-requires c κs = search needs
 
+remaining-requires-2 : tie.Need-remaining-requires-2
+remaining-requires-2 c κs = search needs
+
 enum-told : tie.Need-enum-told
 enum-told c = search needs
 
@@ -75,7 +81,7 @@ same-length-3 : tie.Need-same-length-3
 same-length-3 c = search needs
 
 returns-5 : tie.Need-returns-5
-returns-5 c = cell-added _ _ _ _ _ _ _ (c .before .before .before .before .before .before .before .before .before .before .before .before .before .before .before .before .before .before .before .before .before .before .before .before .before .pre .0) refl _ (c .before .before .before .before .before .before .before .before .before .before .before .before .before .before .before .before .before .before .before .before .before .before .before .before .before .pre .1) _ (c .before .before .before .before .before .before .before .before .before .before .before .before .before .before .before .before .before .before .before .before .before .before .if1 .left) (c .before .before .before .before .before .before .before .before .before .before .before .before .before .before .before .before .before .before .if3 .left) (c .before .before .before .before .before .before .before .before .before .before .before .before .before .before .before .before .if4 .left) _ _ _ (c .before .before .before .before .before .before .before .before .before .before .cell .ensures) (c .before .before .before .put .ensures) (sym (c .before .before .before .before .before .before .before .before .cell-sum .ensures) ∙ c .before .before .before .before .before .before .v .given .1)
+returns-5 c = rw (c .remaining2 .ensures) (cell-added _ _ _ _ _ _ _ (c .before .before .before .before .before .before .before .before .before .before .before .before .before .before .before .before .before .before .before .before .before .before .before .before .before .before .pre .0) refl _ (c .before .before .before .before .before .before .before .before .before .before .before .before .before .before .before .before .before .before .before .before .before .before .before .before .before .before .pre .1) _ (c .before .before .before .before .before .before .before .before .before .before .before .before .before .before .before .before .before .before .before .before .before .before .before .if1 .left) (c .before .before .before .before .before .before .before .before .before .before .before .before .before .before .before .before .before .before .before .if3 .left) (c .before .before .before .before .before .before .before .before .before .before .before .before .before .before .before .before .before .if4 .left) _ _ _ (c .before .before .before .before .before .before .before .before .before .before .before .cell .ensures) (c .before .before .before .before .put .ensures) (sym (c .before .before .before .before .before .before .before .before .before .cell-sum .ensures) ∙ c .before .before .before .before .before .before .before .v .given .1))
 
 same-length-4 : tie.Need-same-length-4
 same-length-4 c = search needs
@@ -88,6 +94,7 @@ walk-cell-spec =
     tie.close
     (tie.spec
     returns
+    remaining-requires
     returns-2
     one-by-one-requires
     same-length
@@ -107,6 +114,7 @@ walk-cell-spec =
     part-put-start
     part-put-end
     put-requires
+    remaining-requires-2
     enum-told
     one-by-one-requires-3
     same-length-3

@@ -8,11 +8,14 @@ use Rattle.joins.proofs.walks.walk_pair.Tie as tie
 returns : tie.Need-returns
 returns c = pair-over _ _ _ _ _ _ (c .if1 .taken)
 
-sub-t15 : tie.Need-sub-t15
-sub-t15 c = search needs
+sub-remaining : tie.Need-sub-remaining
+sub-remaining c = search needs
+
+remaining-requires : tie.Need-remaining-requires
+remaining-requires c κs = search needs
 
 returns-2 : tie.Need-returns-2
-returns-2 c = pair-skipped _ _ _ _ _ _ (c .before .before .before .if1 .left) (c .before .if2 .taken)
+returns-2 c = rw (c .remaining .ensures) (pair-skipped _ _ _ _ _ _ (c .before .before .before .before .if1 .left) (c .before .before .if2 .taken))
 
 returns-3 : tie.Need-returns-3
 returns-3 c = pair-spent _ _ _ _ _ _ (c .before .before .before .before .if1 .left) (c .before .before .if2 .left) (c .if3 .taken)
@@ -53,30 +56,37 @@ part-put-end c = search needs
 put-requires : tie.Need-put-requires
 put-requires c κs = search needs
 
-sub-t26 : tie.Need-sub-t26
-sub-t26 c = search needs
+sub-remaining-2 : tie.Need-sub-remaining-2
+sub-remaining-2 c = search needs
+
+remaining-requires-2 : tie.Need-remaining-requires-2
+remaining-requires-2 c κs = search needs
 
 enum-told : tie.Need-enum-told
 enum-told c = search needs
+
+remaining-requires-3 : tie.Need-remaining-requires-3
+remaining-requires-3 c κs = search needs
 
 same-length : tie.Need-same-length
 same-length c = search needs
 
 returns-4 : tie.Need-returns-4
-returns-4 c = pair-added _ _ _ _ _ _ _ _ (c .before .before .before .before .before .before .before .before .before .before .before .before .before .before .before .before .before .before .before .before .before .before .pre) (c .before .before .before .before .before .before .before .before .before .before .cell .ensures) (c .before .before .before .before .before .before .before .before .before .before .before .before .before .before .before .before .before .before .before .before .if1 .left) (c .before .before .before .before .before .before .before .before .before .before .before .before .before .before .before .before .before .before .if2 .left) (c .before .before .before .before .before .before .before .before .before .before .before .before .before .before .before .before .if3 .left) _ _ (c .before .before .before .put .ensures) (sym (c .before .before .before .before .before .before .before .before .add-pair .ensures) ∙ c .before .before .before .before .before .before .v .given .1)
+returns-4 c = rw (c .remaining2 .ensures) (pair-added _ _ _ _ _ _ _ _ (c .before .before .before .before .before .before .before .before .before .before .before .before .before .before .before .before .before .before .before .before .before .before .before .pre) (c .before .before .before .before .before .before .before .before .before .before .before .cell .ensures) (c .before .before .before .before .before .before .before .before .before .before .before .before .before .before .before .before .before .before .before .before .before .if1 .left) (c .before .before .before .before .before .before .before .before .before .before .before .before .before .before .before .before .before .before .before .if2 .left) (c .before .before .before .before .before .before .before .before .before .before .before .before .before .before .before .before .before .if3 .left) _ _ (c .before .before .before .before .put .ensures) (sym (c .before .before .before .before .before .before .before .before .before .add-pair .ensures) ∙ c .before .before .before .before .before .before .before .v .given .1))
 
 same-length-2 : tie.Need-same-length-2
 same-length-2 c = search needs
 
 returns-5 : tie.Need-returns-5
-returns-5 c = pair-too-large _ _ _ _ _ _ _ _ (c .before .before .before .before .before .before .before .before .before .before .before .before .before .before .before .before .pre) (c .before .before .before .before .cell .ensures) (c .before .before .before .before .before .before .before .before .before .before .before .before .before .before .if1 .left) (c .before .before .before .before .before .before .before .before .before .before .before .before .if2 .left) (c .before .before .before .before .before .before .before .before .before .before .if3 .left) (sym (c .before .before .add-pair .ensures) ∙ c .enum-told .given .1)
+returns-5 c = rw (c .remaining3 .ensures) (pair-too-large _ _ _ _ _ _ _ _ (c .before .before .before .before .before .before .before .before .before .before .before .before .before .before .before .before .before .pre) (c .before .before .before .before .before .cell .ensures) (c .before .before .before .before .before .before .before .before .before .before .before .before .before .before .before .if1 .left) (c .before .before .before .before .before .before .before .before .before .before .before .before .before .if2 .left) (c .before .before .before .before .before .before .before .before .before .before .before .if3 .left) (sym (c .before .before .before .add-pair .ensures) ∙ c .before .enum-told .given .1))
 
 pub walk-pair-spec : {M : Type 1} → statement M
 walk-pair-spec =
     tie.close
     (tie.spec
     returns
-    sub-t15
+    sub-remaining
+    remaining-requires
     returns-2
     returns-3
     mul-cell
@@ -91,8 +101,10 @@ walk-pair-spec =
     part-put-start
     part-put-end
     put-requires
-    sub-t26
+    sub-remaining-2
+    remaining-requires-2
     enum-told
+    remaining-requires-3
     same-length
     returns-4
     same-length-2
