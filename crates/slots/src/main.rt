@@ -65,13 +65,23 @@ fn slot(file: &[u8], lower: u64, done: u64, budget: u64, area: &mut [u64]) -> u6
     tell(runs::advance::advance(file, lower, done, budget, area))
 }
 
-// A start, and a slot of each budget from a number done on.
-fn run(file: &[u8], lower: u64, from: u64, budgets: &[u64], area: &mut [u64]) {
+fn head(lower: u64, from: u64) {
     io::write_all(STDOUT_FILENO, b"lowered");
     say(lower);
     io::write_all(STDOUT_FILENO, b" from");
     say(from);
     io::write_all(STDOUT_FILENO, b":");
+}
+
+fn tail(area: &[u64]) {
+    io::write_all(STDOUT_FILENO, b"; cells");
+    cells(area);
+    io::write_all(STDOUT_FILENO, b"\n");
+}
+
+// A start, and a slot of each budget from a number done on.
+fn run(file: &[u8], lower: u64, from: u64, budgets: &[u64], area: &mut [u64]) {
+    head(lower, from);
     started(runs::start(file, lower, area));
     let mut done = from;
     let mut i: usize = 0;
@@ -79,9 +89,7 @@ fn run(file: &[u8], lower: u64, from: u64, budgets: &[u64], area: &mut [u64]) {
         done = slot(file, lower, done, budgets[i], area);
         i += 1;
     }
-    io::write_all(STDOUT_FILENO, b"; cells");
-    cells(area);
-    io::write_all(STDOUT_FILENO, b"\n");
+    tail(area);
 }
 
 // In cells that hold other numbers first; more of them than any of these models has.
@@ -142,58 +150,106 @@ fn all(name: &[u8], file: &[u8]) {
     }
 }
 
-fn models_of_more_centres() {
+fn model_b() {
     all(
         b"B\n",
         b"\x01\x03\x02\x02\x01\x01\x02\x02\x01\x03\x01\x01\x00\x01\x03\x01\x02\x00\x02\x03\x02\x01\x00\x03\x03\x03\x02\x00\x01\x04\x01\x04\x02\x05\x04\x03\x05\x06",
     );
+}
+
+fn other_tree() {
     all(
         b"other\n",
         b"\x01\x03\x02\x02\x01\x01\x02\x02\x01\x03\x01\x01\x00\x01\x03\x01\x02\x00\x02\x03\x02\x01\x00\x03\x03\x03\x02\x00\x01\x04\x02\x04\x03\x05\x04\x01\x05\x06",
     );
+}
+
+fn once() {
     all(
         b"once\n",
         b"\x01\x02\x01\x02\x01\x03\x03\x01\x01\x00\x05\x04\x01\x04\x02\x05\x06",
     );
+}
+
+fn two() {
     all(
         b"two\n",
         b"\x01\x02\x01\x02\x01\x02\x03\x01\x01\x00\x01\x03\x02\x01\x00\x02\x04\x01\x04\x02\x05\x06",
     );
+}
+
+fn wide() {
     all(
         b"wide\n",
         b"\x01\x02\x01\x02\x01\x04\x03\x01\x01\xff\xff\x03\x02\x01\x00\x01\x04\x01\x04\x02\x05\x06",
     );
+}
+
+fn wider() {
     all(
         b"wider\n",
         b"\x01\x02\x01\x02\x01\x04\x03\x01\x01\xff\xff\x03\x02\x01\xff\xff\x04\x01\x04\x02\x05\x06",
     );
 }
 
-fn models_of_one_centre() {
+fn both() {
     all(
         b"both\n",
         b"\x01\x01\x02\x02\x01\x02\x02\x02\x01\x03\x01\x01\x00\x02\x03\x01\x02\x00\x03\x04\x01\x06",
     );
+}
+
+fn idle() {
     all(
         b"idle\n",
         b"\x01\x01\x01\x02\x01\x00\x03\x01\x01\x00\x09\x04\x01\x06",
     );
+}
+
+fn large_4() {
     all(
         b"large, window 4\n",
         b"\x01\x01\x01\x02\x01\x04\x03\x01\x01\xff\xff\x04\x01\x06",
     );
+}
+
+fn large_5() {
     all(
         b"large, window 5\n",
         b"\x01\x01\x01\x02\x01\x05\x03\x01\x01\xff\xff\x04\x01\x06",
     );
+}
+
+fn exact() {
     all(
         b"exact\n",
         b"\x01\x01\x01\x02\x01\x08\x03\x01\x01\x01\x00\x04\x01\x06",
     );
+}
+
+fn below() {
     all(
         b"below\n",
         b"\x01\x01\x01\x02\x01\x08\x03\x01\x01\x00\xff\x04\x01\x06",
     );
+}
+
+fn models_of_more_centres() {
+    model_b();
+    other_tree();
+    once();
+    two();
+    wide();
+    wider();
+}
+
+fn models_of_one_centre() {
+    both();
+    idle();
+    large_4();
+    large_5();
+    exact();
+    below();
 }
 
 fn main() {

@@ -7,34 +7,13 @@ use Rattle.slots.proofs.run.Statement.{statement}
 use Rattle.slots.proofs.run.Tie as tie
 
 abbrev Inv-loop : tie.InvT-loop
-Inv-loop file lower from budgets area₀ done₀ i₀ t11 t12 area done i = (length area ≡ length area₀) × (i ≤ length budgets)
+Inv-loop file lower from budgets area₀ done₀ i₀ area done i = (length area ≡ length area₀) × (i ≤ length budgets)
 
 abbrev μ-loop : tie.MeasureT-loop
-μ-loop file lower from budgets area₀ done₀ i₀ t11 t12 area done i = length budgets - i
+μ-loop file lower from budgets area₀ done₀ i₀ area done i = length budgets - i
 
-slice-aggregate-write-all : tie.Need-slice-aggregate-write-all Inv-loop μ-loop
-slice-aggregate-write-all c = search needs
-
-write-all-requires : tie.Need-write-all-requires Inv-loop μ-loop
-write-all-requires c κs = search needs
-
-say-requires : tie.Need-say-requires Inv-loop μ-loop
-say-requires c κs = search needs
-
-slice-aggregate-write-all-2 : tie.Need-slice-aggregate-write-all-2 Inv-loop μ-loop
-slice-aggregate-write-all-2 c = search needs
-
-write-all-requires-2 : tie.Need-write-all-requires-2 Inv-loop μ-loop
-write-all-requires-2 c κs = search needs
-
-say-requires-2 : tie.Need-say-requires-2 Inv-loop μ-loop
-say-requires-2 c κs = search needs
-
-slice-aggregate-write-all-3 : tie.Need-slice-aggregate-write-all-3 Inv-loop μ-loop
-slice-aggregate-write-all-3 c = search needs
-
-write-all-requires-3 : tie.Need-write-all-requires-3 Inv-loop μ-loop
-write-all-requires-3 c κs = search needs
+head-requires : tie.Need-head-requires Inv-loop μ-loop
+head-requires c κs = search needs
 
 start-requires : tie.Need-start-requires Inv-loop μ-loop
 start-requires c κs = search needs
@@ -63,20 +42,8 @@ loop-less c = search needs
 loop-again : tie.Need-loop-again Inv-loop μ-loop
 loop-again c = search needs
 
-slice-aggregate-write-all-4 : tie.Need-slice-aggregate-write-all-4 Inv-loop μ-loop
-slice-aggregate-write-all-4 c = search needs
-
-write-all-requires-4 : tie.Need-write-all-requires-4 Inv-loop μ-loop
-write-all-requires-4 c κs = search needs
-
-cells-requires : tie.Need-cells-requires Inv-loop μ-loop
-cells-requires c κs = search needs
-
-slice-aggregate-write-all-5 : tie.Need-slice-aggregate-write-all-5 Inv-loop μ-loop
-slice-aggregate-write-all-5 c = search needs
-
-write-all-requires-5 : tie.Need-write-all-requires-5 Inv-loop μ-loop
-write-all-requires-5 c κs = search needs
+tail-requires : tie.Need-tail-requires Inv-loop μ-loop
+tail-requires c κs = search needs
 
 same-length : tie.Need-same-length Inv-loop μ-loop
 same-length c = search needs
@@ -90,14 +57,7 @@ run-spec =
     (tie.spec
     Inv-loop
     μ-loop
-    slice-aggregate-write-all
-    write-all-requires
-    say-requires
-    slice-aggregate-write-all-2
-    write-all-requires-2
-    say-requires-2
-    slice-aggregate-write-all-3
-    write-all-requires-3
+    head-requires
     start-requires
     started-requires
     loop-holds
@@ -107,10 +67,6 @@ run-spec =
     add-i
     loop-less
     loop-again
-    slice-aggregate-write-all-4
-    write-all-requires-4
-    cells-requires
-    slice-aggregate-write-all-5
-    write-all-requires-5
+    tail-requires
     same-length
     returns)
