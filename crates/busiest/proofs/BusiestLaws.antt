@@ -13,13 +13,12 @@ use borrow.Author.Tests.{eq-eqb, ne-eqb, eqb-false, ltb-true, ltb-false}
 use Rattle.sums.specs.Choice.{choose}
 use Rattle.sums.specs.Lists.{from}
 use Rattle.sums.specs.Sums.{sumOver}
-use Rattle.sums.proofs.ListLaws.{map-append, length-from}
+use Rattle.sums.proofs.ListLaws.{map-append, length-from, from-more}
 use Rattle.sums.proofs.SumLaws.{sumOver-append}
 use Rattle.modelfile.specs.Network.{loadsOf}
 use Rattle.modelfile.specs.declared.Model.{Model}
 use Rattle.modelfile.proofs.Guaranteed.{Guaranteed}
 use Rattle.calls.specs.Sheet.{loadSum, largest, firstWith, busiest}
-use Rattle.plan.proofs.RowLaws.{from-more}
 use Rattle.busiest.specs.Steps.{better}
 use Rattle.busiest.specs.declared.Best.{Best}
 

@@ -7,11 +7,10 @@ use native.Mathlib.Omega.{arith}
 use native.Mathlib.Numerals.{add-one}
 use lib.ListN.{length, getD, length-append}
 use Rattle.sums.specs.Lists.{from, those, when}
-use Rattle.sums.proofs.ListLaws.{length-from}
+use Rattle.sums.proofs.ListLaws.{length-from, from-more}
 use Rattle.sums.proofs.BoolLaws.{those-append}
 use Rattle.network.specs.Centre.{visit}
 use Rattle.plan.specs.Steps.{loadedBy, countBy}
-use Rattle.plan.proofs.RowLaws.{from-more}
 use Rattle.plan.proofs.ThoseLaws.{those-few}
 
 visit-some : (load : ℕ) → (load ≡ 0 → ⊥) → visit load ≡ true

@@ -8,13 +8,8 @@ use native.Mathlib.Nat.{zero-add}
 use lib.ListN.{length, getD, set, take, replicate, length-map, length-append, length-set, length-replicate, replicate-append-replicate, List·getD-append}
 use lib.Seq.{set-at, ext-getD, getD-take, length-take-le}
 use Rattle.sums.specs.Lists.{from}
-use Rattle.sums.proofs.ListLaws.{map-append, map-cong, getD-map-in, length-from, getD-from, from-out}
+use Rattle.sums.proofs.ListLaws.{map-append, map-cong, getD-map-in, length-from, getD-from, from-more, from-out}
 use Rattle.plan.specs.Table.{padded, row}
-
-pub from-more : (a n : ℕ) → from a (suc n) ≡ from a n ++ ((a + n) ∷ [])
-unfolding from
-from-more a zero = let e : a ≡ a + 0 = omega arith in ap (λ x. x ∷ []) e
-from-more a (suc n) = let e : suc a + n ≡ a + suc n = omega arith in ap (λ l. a ∷ l) (from-more (suc a) n ∙ ap (λ x. from (suc a) n ++ (x ∷ [])) e)
 
 module _ (f : ℕ → ℕ) where
   length-filled : (n : ℕ) → length (map f (from 0 n)) ≡ n

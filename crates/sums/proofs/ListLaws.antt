@@ -164,6 +164,12 @@ getD-from a zero i h = absurd (omega arith)
 getD-from a (suc m) zero h = sym (add-zero a)
 getD-from a (suc m) (suc i) h = getD-from (suc a) m i (omega arith) ∙ omega arith
 
+-- one more at the end
+pub from-more : (a n : ℕ) → from a (suc n) ≡ from a n ++ ((a + n) ∷ [])
+unfolding from
+from-more a zero = let e : a ≡ a + 0 = omega arith in ap (λ x. x ∷ []) e
+from-more a (suc n) = let e : suc a + n ≡ a + suc n = omega arith in ap (λ l. a ∷ l) (from-more (suc a) n ∙ ap (λ x. from (suc a) n ++ (x ∷ [])) e)
+
 pub from-out : (a m x : ℕ) → List·Memᴰ x (from a m) → (a ≤ x) × (x < a + m)
 unfolding from
 from-out a zero x h = absurd (List·Memᴰ·not-nil h)
