@@ -1,13 +1,11 @@
--- The chains counted stay at most as many as there are; the slice keeps its length.
+-- The chains counted stay at most as many as there are.
 use Prim.Native.Nat.{_-_, _≤_}
-use mathlib.Core.Path.{_≡_}
-use lib.ListN.{length}
 use borrow.Author.Needs.{needs}
 use Rattle.states.proofs.draws.draw_chains.Statement.{statement}
 use Rattle.states.proofs.draws.draw_chains.Tie as tie
 
 abbrev Inv-loop : tie.InvT-loop
-Inv-loop m₀ chains k₀ m k = (length m ≡ length m₀) × (k ≤ chains)
+Inv-loop m₀ chains k₀ m k = k ≤ chains
 
 abbrev μ-loop : tie.MeasureT-loop
 μ-loop m₀ chains k₀ m k = chains - k
@@ -30,9 +28,6 @@ loop-less c = search needs
 loop-again : tie.Need-loop-again Inv-loop μ-loop
 loop-again c = search needs
 
-same-length : tie.Need-same-length Inv-loop μ-loop
-same-length c = search needs
-
 returns : tie.Need-returns Inv-loop μ-loop
 returns c = search needs
 
@@ -48,5 +43,4 @@ draw-chains-spec =
     add-k
     loop-less
     loop-again
-    same-length
     returns)

@@ -1,13 +1,11 @@
--- The numbers passed are those from 4 to 9; the slice keeps its length.
+-- The numbers passed are those from 4 to 9.
 use Prim.Native.Nat.{_-_, _≤_}
-use mathlib.Core.Path.{_≡_}
-use lib.ListN.{length}
 use borrow.Author.Needs.{needs}
 use Rattle.states.proofs.draws.give_loads.Statement.{statement}
 use Rattle.states.proofs.draws.give_loads.Tie as tie
 
 abbrev Inv-loop : tie.InvT-loop
-Inv-loop m₀ given i₀ m i = (length m ≡ length m₀) × (4 ≤ i) × (i ≤ 10)
+Inv-loop m₀ given i₀ m i = (4 ≤ i) × (i ≤ 10)
 
 abbrev μ-loop : tie.MeasureT-loop
 μ-loop m₀ given i₀ m i = 10 - i
@@ -36,9 +34,6 @@ loop-less c = search needs
 loop-again : tie.Need-loop-again Inv-loop μ-loop
 loop-again c = search needs
 
-same-length : tie.Need-same-length Inv-loop μ-loop
-same-length c = search needs
-
 returns : tie.Need-returns Inv-loop μ-loop
 returns c = search needs
 
@@ -56,5 +51,4 @@ give-loads-spec =
     add-i
     loop-less
     loop-again
-    same-length
     returns)

@@ -1,13 +1,11 @@
--- The chains counted stay at most 8; the slice keeps its length.
+-- The chains counted stay at most 8.
 use Prim.Native.Nat.{_-_, _≤_}
-use mathlib.Core.Path.{_≡_}
-use lib.ListN.{length}
 use borrow.Author.Needs.{needs}
 use Rattle.states.proofs.odometer.first_state.Statement.{statement}
 use Rattle.states.proofs.odometer.first_state.Tie as tie
 
 abbrev Inv-loop : tie.InvT-loop
-Inv-loop m₀ lower k₀ m k = (length m ≡ length m₀) × (k ≤ 8)
+Inv-loop m₀ lower k₀ m k = k ≤ 8
 
 abbrev μ-loop : tie.MeasureT-loop
 μ-loop m₀ lower k₀ m k = 8 - k
@@ -42,9 +40,6 @@ loop-less c = search needs
 loop-again : tie.Need-loop-again Inv-loop μ-loop
 loop-again c = search needs
 
-same-length : tie.Need-same-length Inv-loop μ-loop
-same-length c = search needs
-
 returns : tie.Need-returns Inv-loop μ-loop
 returns c = search needs
 
@@ -64,5 +59,4 @@ first-state-spec =
     add-k
     loop-less
     loop-again
-    same-length
     returns)
