@@ -34,12 +34,20 @@ fn draw_within(m: &mut [u64; LENGTH], i: u64) -> u64 {
     draw(m, low, high)
 }
 
-fn draw_chain(m: &mut [u64; LENGTH], k: u64) {
-    let window = draw_within(m, 4);
+fn draw_into(m: &mut [u64; LENGTH], i: u64, region: u64, k: u64) {
+    let x = draw_within(m, i);
+    put(m, region, k, x);
+}
+
+fn draw_home(m: &mut [u64; LENGTH], k: u64) {
     let last = minus(at(m, CENTRES, 0), 1);
     let home = draw(m, 0, last);
-    put(m, WINDOWS, k, window);
     put(m, HOMES, k, home);
+}
+
+fn draw_chain(m: &mut [u64; LENGTH], k: u64) {
+    draw_into(m, 4, WINDOWS, k);
+    draw_home(m, k);
 }
 
 fn draw_chains(m: &mut [u64; LENGTH]) {
@@ -67,10 +75,8 @@ fn is_visited(m: &[u64; LENGTH], c: u64, k: u64, chance: u64) -> bool {
 
 fn draw_load(m: &mut [u64; LENGTH], i: u64) {
     let chance = draw(m, 0, 15);
-    let load = draw_within(m, 6);
-    if is_visited(m, i / 8, i % 8, chance) {
-        put(m, LOADS, i, load);
-    } else {
+    draw_into(m, 6, LOADS, i);
+    if !is_visited(m, i / 8, i % 8, chance) {
         put(m, LOADS, i, 0);
     }
 }
@@ -83,16 +89,22 @@ fn draw_loads(m: &mut [u64; LENGTH]) {
     }
 }
 
-pub fn draw_model(m: &mut [u64; LENGTH]) {
-    clear(m, WINDOWS, 8);
-    let centres = draw_within(m, 0);
-    put(m, CENTRES, 0, centres);
-    let chains = draw_within(m, 2);
-    put(m, CHAINS, 0, chains);
-    draw_chains(m);
-    draw_loads(m);
+fn draw_chance(m: &mut [u64; LENGTH]) {
     let chance = draw(m, 0, 1000);
     put(m, CHANCE, 0, chance);
+}
+
+fn draw_size(m: &mut [u64; LENGTH]) {
+    clear(m, WINDOWS, 8);
+    draw_into(m, 0, CENTRES, 0);
+    draw_into(m, 2, CHAINS, 0);
+}
+
+pub fn draw_model(m: &mut [u64; LENGTH]) {
+    draw_size(m);
+    draw_chains(m);
+    draw_loads(m);
+    draw_chance(m);
 }
 
 // The least and the most centres, chains, windows and loads, the sixteenths, and 1 for models on both sides of 2^64. Drawing begins anew.
@@ -114,10 +126,19 @@ fn give_load(m: &mut [u64; LENGTH], i: u64, load: u64) {
     put(m, HOMES, i % 2, i / 2);
 }
 
-fn give_loads(m: &mut [u64; LENGTH], given: [u64; 10]) {
-    let mut i: usize = 4;
+// The number of centres, of chains, and two windows stand side by side.
+fn give(m: &mut [u64; LENGTH], i: u64, x: u64) {
+    if i < 4 {
+        put(m, CENTRES, i, x);
+    } else {
+        give_load(m, i - 4, x);
+    }
+}
+
+fn give_all(m: &mut [u64; LENGTH], given: [u64; 10]) {
+    let mut i: usize = 0;
     while i < 10 {
-        give_load(m, i as u64 - 4, given[i]);
+        give(m, i as u64, given[i]);
         i += 1;
     }
 }
@@ -126,9 +147,5 @@ fn give_loads(m: &mut [u64; LENGTH], given: [u64; 10]) {
 pub fn give_model(m: &mut [u64; LENGTH], given: [u64; 10]) {
     clear(m, WINDOWS, 8);
     clear(m, LOADS, 128);
-    put(m, CENTRES, 0, given[0]);
-    put(m, CHAINS, 0, given[1]);
-    put(m, WINDOWS, 0, given[2]);
-    put(m, WINDOWS, 1, given[3]);
-    give_loads(m, given);
+    give_all(m, given);
 }

@@ -6,6 +6,7 @@ use crate::memory::LOADS;
 use crate::memory::LOW;
 use crate::memory::MOST;
 use crate::memory::SIDE;
+use crate::memory::add;
 use crate::memory::at;
 use crate::memory::plus;
 use crate::memory::put;
@@ -13,8 +14,13 @@ use crate::memory::times;
 use crate::odometer::value;
 use crate::table::fill_table;
 
+// Where the load is.
+fn place(m: &[u64; LENGTH]) -> u64 {
+    times(at(m, HOMES, 0), 8)
+}
+
 fn set_load(m: &mut [u64; LENGTH], load: u64) {
-    let i = times(at(m, HOMES, 0), 8);
+    let i = place(m);
     put(m, LOADS, i, load);
 }
 
@@ -56,11 +62,15 @@ pub fn first_side(m: &mut [u64; LENGTH]) {
     put(m, SIDE, 0, 1);
 }
 
+fn raise_load(m: &mut [u64; LENGTH]) {
+    let i = place(m);
+    add(m, LOADS, i, 1);
+}
+
 pub fn second_side(m: &mut [u64; LENGTH]) {
     let low = at(m, DUES, 0);
     put(m, LOW, 0, low);
-    let load = at(m, LOADS, times(at(m, HOMES, 0), 8));
-    set_load(m, plus(load, 1));
+    raise_load(m);
     put(m, SIDE, 0, 2);
 }
 

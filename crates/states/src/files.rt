@@ -40,24 +40,26 @@ fn push(file: &mut [u8; BYTES], n: usize, x: u64) -> usize {
     n
 }
 
+fn push_three(file: &mut [u8; BYTES], n: usize, x: u64, y: u64, z: u64) -> usize {
+    let a = push(file, n, x);
+    let b = push(file, a, y);
+    push(file, b, z)
+}
+
 fn push_window(file: &mut [u8; BYTES], n: usize, m: &[u64; LENGTH], k: u64) -> usize {
     if at(m, CHAINS, 0) <= k {
         return n;
     }
-    let a = push(file, n, 2);
-    let b = push(file, a, plus(k, 1));
-    push(file, b, at(m, WINDOWS, k))
+    push_three(file, n, 2, plus(k, 1), at(m, WINDOWS, k))
 }
 
 fn push_load(file: &mut [u8; BYTES], n: usize, i: u64, load: u64) -> usize {
     if load == 0 {
         return n;
     }
-    let a = push(file, n, 3);
-    let b = push(file, a, i / 8 + 1);
-    let c = push(file, b, i % 8 + 1);
-    let d = push(file, c, load / 256);
-    push(file, d, load)
+    let a = push_three(file, n, 3, i / 8 + 1, i % 8 + 1);
+    let b = push(file, a, load / 256);
+    push(file, b, load)
 }
 
 fn push_record(file: &mut [u8; BYTES], n: usize, m: &[u64; LENGTH], i: u64) -> usize {
@@ -114,19 +116,15 @@ fn push_join(file: &mut [u8; BYTES], w: Written) -> Written {
     }
 }
 
-// A join if one is due, else the next leaf if its number is that of a centre.
-fn push_node(file: &mut [u8; BYTES], w: Written, t: Tree, centres: u64) -> Written {
-    if w.joins != 0 {
-        return push_join(file, w);
+// Leaf i of a tree, 0 past the last one.
+fn leaf_of(t: Tree, i: u64) -> u64 {
+    if i < 17 {
+        return plus(times(t.step, i), t.turn) % 17;
     }
-    let c = plus(times(t.step, w.next), t.turn) % 17;
-    if w.next < 17 {
-        if c != 0 {
-            if c <= centres {
-                return push_leaf(file, w, centres, c);
-            }
-        }
-    }
+    0
+}
+
+fn pass_leaf(w: Written) -> Written {
     Written {
         bytes: w.bytes,
         next: plus(w.next, 1),
@@ -135,6 +133,21 @@ fn push_node(file: &mut [u8; BYTES], w: Written, t: Tree, centres: u64) -> Writt
         joins: 0,
         pattern: w.pattern,
     }
+}
+
+// A join if one is due, else the next leaf if its number is that of a centre.
+fn push_node(file: &mut [u8; BYTES], w: Written, t: Tree, centres: u64) -> Written {
+    if w.joins != 0 {
+        return push_join(file, w);
+    }
+    let c = leaf_of(t, w.next);
+    if c == 0 {
+        return pass_leaf(w);
+    }
+    if centres < c {
+        return pass_leaf(w);
+    }
+    push_leaf(file, w, centres, c)
 }
 
 fn push_tree(file: &mut [u8; BYTES], n: usize, t: Tree, centres: u64) -> usize {
@@ -194,12 +207,10 @@ pub fn tree_of(m: &[u64; LENGTH], i: u64) -> Tree {
 // The number of bytes.
 pub fn write_file(file: &mut [u8; BYTES], m: &[u64; LENGTH], t: Tree) -> usize {
     let centres = at(m, CENTRES, 0);
-    let a = push(file, 0, 1);
-    let b = push(file, a, centres);
-    let c = push(file, b, at(m, CHAINS, 0));
-    let d = push_records(file, c, m);
-    let e = push_tree(file, d, t, centres);
-    push(file, e, 6)
+    let a = push_three(file, 0, 1, centres, at(m, CHAINS, 0));
+    let b = push_records(file, a, m);
+    let c = push_tree(file, b, t, centres);
+    push(file, c, 6)
 }
 
 // The first n bytes, or all if there are fewer.

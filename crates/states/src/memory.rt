@@ -5,11 +5,11 @@ use arith::Fits;
 // A number of 2^64 or more. No weight is 2^64 - 1, which has the prime factor 6700417.
 pub const MOST: u64 = 18446744073709551615;
 
-// One number each: what the model has, the entries of one centre's table, and the last number drawn.
-pub const CENTRES: u64 = 0;
+// Of two models on both sides of 2^64: which one is at hand, 0 if none, and the value of the first.
+pub const SIDE: u64 = 0;
 
-pub const CHAINS: u64 = 1;
-
+pub const LOW: u64 = 1;
+// The entries of one centre's table, and the last number drawn.
 pub const SIZE: u64 = 2;
 
 pub const SEED: u64 = 3;
@@ -17,10 +17,10 @@ pub const SEED: u64 = 3;
 pub const CHANCE: u64 = 4;
 
 pub const FIRST: u64 = 5;
-// Of two models on both sides of 2^64: which one is at hand, 0 if none, and the value of the first.
-pub const SIDE: u64 = 6;
+// What the model has.
+pub const CENTRES: u64 = 6;
 
-pub const LOW: u64 = 7;
+pub const CHAINS: u64 = 7;
 // By chain: its window, what one message adds to an index of the table, and a centre that it visits.
 pub const WINDOWS: u64 = 8;
 

@@ -27,13 +27,18 @@ fn window_of(m: &[u64; LENGTH], k: u64, lower: u64) -> u64 {
     window
 }
 
+// All messages of a chain at its home.
+fn begin_at_home(m: &mut [u64; LENGTH], k: u64, lower: u64) {
+    let x = times(window_of(m, k, lower), at(m, STEPS, k));
+    let home = at(m, HOMES, k);
+    add(m, PLACES, home, x);
+}
+
 fn first_state(m: &mut [u64; LENGTH], lower: u64) {
     clear(m, PLACES, 16);
     let mut k: u64 = 0;
     while k < 8 {
-        let x = times(window_of(m, k, lower), at(m, STEPS, k));
-        let home = at(m, HOMES, k);
-        add(m, PLACES, home, x);
+        begin_at_home(m, k, lower);
         k += 1;
     }
 }
@@ -44,14 +49,19 @@ fn shift(m: &mut [u64; LENGTH], from: u64, to: u64, x: u64) {
     add(m, PLACES, to, x);
 }
 
+// What the messages of a chain at a centre add to its index.
+fn part(m: &[u64; LENGTH], c: u64, k: u64) -> u64 {
+    times(messages(m, at(m, PLACES, c), k), at(m, STEPS, k))
+}
+
 // Whether a digit went up; else it went back to 0.
 fn step(m: &mut [u64; LENGTH], c: u64, k: u64, home: u64) -> bool {
-    let one = at(m, STEPS, k);
-    if messages(m, at(m, PLACES, home), k) == 0 {
-        let n = messages(m, at(m, PLACES, c), k);
-        shift(m, c, home, times(n, one));
+    if part(m, home, k) == 0 {
+        let away = part(m, c, k);
+        shift(m, c, home, away);
         return false;
     }
+    let one = at(m, STEPS, k);
     shift(m, home, c, one);
     true
 }

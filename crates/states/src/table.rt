@@ -40,6 +40,11 @@ pub fn messages(m: &[u64; LENGTH], index: u64, k: u64) -> u64 {
     0
 }
 
+fn term(m: &[u64; LENGTH], entry: u64, c: u64, k: u64) -> u64 {
+    let load = at(m, LOADS, plus(times(c, 8), k));
+    times(load, at(m, TABLE, minus(entry, at(m, STEPS, k))))
+}
+
 // What a chain adds to the entry of an index at a centre.
 fn add_term(m: &mut [u64; LENGTH], entry: u64, c: u64, index: u64, k: u64) {
     if index == 0 {
@@ -49,9 +54,8 @@ fn add_term(m: &mut [u64; LENGTH], entry: u64, c: u64, index: u64, k: u64) {
     if messages(m, index, k) == 0 {
         return;
     }
-    let load = at(m, LOADS, plus(times(c, 8), k));
-    let fewer = at(m, TABLE, minus(entry, at(m, STEPS, k)));
-    add(m, TABLE, entry, times(load, fewer));
+    let x = term(m, entry, c, k);
+    add(m, TABLE, entry, x);
 }
 
 fn add_terms(m: &mut [u64; LENGTH], entries: u64, size: u64) {

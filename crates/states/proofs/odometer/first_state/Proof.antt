@@ -16,20 +16,8 @@ clear-requires c κs = search needs
 loop-holds : tie.Need-loop-holds Inv-loop μ-loop
 loop-holds c = search needs
 
-window-of-requires : tie.Need-window-of-requires Inv-loop μ-loop
-window-of-requires c κs = search needs
-
-at-requires : tie.Need-at-requires Inv-loop μ-loop
-at-requires c κs = search needs
-
-times-requires : tie.Need-times-requires Inv-loop μ-loop
-times-requires c κs = search needs
-
-at-requires-2 : tie.Need-at-requires-2 Inv-loop μ-loop
-at-requires-2 c κs = search needs
-
-add-requires : tie.Need-add-requires Inv-loop μ-loop
-add-requires c κs = search needs
+begin-at-home-requires : tie.Need-begin-at-home-requires Inv-loop μ-loop
+begin-at-home-requires c κs = search needs
 
 add-k : tie.Need-add-k Inv-loop μ-loop
 add-k c = search needs
@@ -51,11 +39,7 @@ first-state-spec =
     μ-loop
     clear-requires
     loop-holds
-    window-of-requires
-    at-requires
-    times-requires
-    at-requires-2
-    add-requires
+    begin-at-home-requires
     add-k
     loop-less
     loop-again
