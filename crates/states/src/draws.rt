@@ -28,14 +28,10 @@ fn draw(m: &mut [u64; LENGTH], low: u64, high: u64) -> u64 {
 }
 
 // A number between two of the shape's.
-fn draw_within(m: &mut [u64; LENGTH], i: u64) -> u64 {
+fn draw_into(m: &mut [u64; LENGTH], i: u64, region: u64, k: u64) {
     let low = at(m, SHAPE, i);
     let high = at(m, SHAPE, plus(i, 1));
-    draw(m, low, high)
-}
-
-fn draw_into(m: &mut [u64; LENGTH], i: u64, region: u64, k: u64) {
-    let x = draw_within(m, i);
+    let x = draw(m, low, high);
     put(m, region, k, x);
 }
 
@@ -45,16 +41,12 @@ fn draw_home(m: &mut [u64; LENGTH], k: u64) {
     put(m, HOMES, k, home);
 }
 
-fn draw_chain(m: &mut [u64; LENGTH], k: u64) {
-    draw_into(m, 4, WINDOWS, k);
-    draw_home(m, k);
-}
-
 fn draw_chains(m: &mut [u64; LENGTH]) {
     let chains = at(m, CHAINS, 0);
     let mut k: u64 = 0;
     while k < chains {
-        draw_chain(m, k);
+        draw_into(m, 4, WINDOWS, k);
+        draw_home(m, k);
         k += 1;
     }
 }
@@ -117,22 +109,17 @@ pub fn set_shape(m: &mut [u64; LENGTH], shape: [u64; 10]) {
     }
 }
 
-// A load of one of two chains at a centre, which becomes the chain's home.
-fn give_load(m: &mut [u64; LENGTH], i: u64, load: u64) {
-    if load == 0 {
-        return;
-    }
-    put(m, LOADS, plus(times(i / 2, 8), i % 2), load);
-    put(m, HOMES, i % 2, i / 2);
-}
-
-// The number of centres, of chains, and two windows stand side by side.
+// The numbers of centres and of chains and two windows, which stand side by side, or a load of one of two chains at a centre, which becomes its home.
 fn give(m: &mut [u64; LENGTH], i: u64, x: u64) {
     if i < 4 {
         put(m, CENTRES, i, x);
-    } else {
-        give_load(m, i - 4, x);
+        return;
     }
+    if x == 0 {
+        return;
+    }
+    put(m, LOADS, plus(times(i / 2 - 2, 8), i % 2), x);
+    put(m, HOMES, i % 2, i / 2 - 2);
 }
 
 fn give_all(m: &mut [u64; LENGTH], given: [u64; 10]) {

@@ -24,17 +24,14 @@ fn set_load(m: &mut [u64; LENGTH], load: u64) {
     put(m, LOADS, i, load);
 }
 
-fn is_below(m: &mut [u64; LENGTH], load: u64) -> bool {
-    set_load(m, load);
-    if !fill_table(m) {
-        return false;
-    }
-    value(m, 0) < MOST
-}
-
+// The load with a digit more, if its value is below 2^64.
 fn raised(m: &mut [u64; LENGTH], load: u64, digit: u64) -> u64 {
     let more = plus(load, digit);
-    if is_below(m, more) { more } else { load }
+    set_load(m, more);
+    if !fill_table(m) {
+        return load;
+    }
+    if value(m, 0) < MOST { more } else { load }
 }
 
 // The last load up to 65535 with a value below 2^64, by its binary digits from the highest on; 0 if there is none.
@@ -62,15 +59,11 @@ pub fn first_side(m: &mut [u64; LENGTH]) {
     put(m, SIDE, 0, 1);
 }
 
-fn raise_load(m: &mut [u64; LENGTH]) {
-    let i = place(m);
-    add(m, LOADS, i, 1);
-}
-
 pub fn second_side(m: &mut [u64; LENGTH]) {
     let low = at(m, DUES, 0);
     put(m, LOW, 0, low);
-    raise_load(m);
+    let i = place(m);
+    add(m, LOADS, i, 1);
     put(m, SIDE, 0, 2);
 }
 

@@ -53,20 +53,18 @@ fn push_window(file: &mut [u8; BYTES], n: usize, m: &[u64; LENGTH], k: u64) -> u
     push_three(file, n, 2, plus(k, 1), at(m, WINDOWS, k))
 }
 
-fn push_load(file: &mut [u8; BYTES], n: usize, i: u64, load: u64) -> usize {
-    if load == 0 {
-        return n;
-    }
-    let a = push_three(file, n, 3, i / 8 + 1, i % 8 + 1);
-    let b = push(file, a, load / 256);
-    push(file, b, load)
-}
-
+// A window, or a load if there is one.
 fn push_record(file: &mut [u8; BYTES], n: usize, m: &[u64; LENGTH], i: u64) -> usize {
     if i < 8 {
         return push_window(file, n, m, i);
     }
-    push_load(file, n, i - 8, at(m, LOADS, i - 8))
+    let load = at(m, LOADS, i - 8);
+    if load == 0 {
+        return n;
+    }
+    let a = push_three(file, n, 3, i / 8, i % 8 + 1);
+    let b = push(file, a, load / 256);
+    push(file, b, load)
 }
 
 fn push_records(file: &mut [u8; BYTES], n: usize, m: &[u64; LENGTH]) -> usize {

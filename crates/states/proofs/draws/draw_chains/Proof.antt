@@ -16,8 +16,11 @@ at-requires c κs = search needs
 loop-holds : tie.Need-loop-holds Inv-loop μ-loop
 loop-holds c = search needs
 
-draw-chain-requires : tie.Need-draw-chain-requires Inv-loop μ-loop
-draw-chain-requires c κs = search needs
+draw-into-requires : tie.Need-draw-into-requires Inv-loop μ-loop
+draw-into-requires c κs = search needs
+
+draw-home-requires : tie.Need-draw-home-requires Inv-loop μ-loop
+draw-home-requires c κs = search needs
 
 add-k : tie.Need-add-k Inv-loop μ-loop
 add-k c = search needs
@@ -39,7 +42,8 @@ draw-chains-spec =
     μ-loop
     at-requires
     loop-holds
-    draw-chain-requires
+    draw-into-requires
+    draw-home-requires
     add-k
     loop-less
     loop-again
