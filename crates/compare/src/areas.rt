@@ -4,9 +4,11 @@ use crate::told::started;
 use judge::texts::say;
 use judge::texts::tell;
 use judge::texts::tell_all;
+use states::files::BYTES;
 use states::files::front;
 use states::files::tree_of;
 use states::files::write_file;
+use states::memory::LENGTH;
 
 fn tell_area(file: &[u8], pairs: u64) {
     let mut area = [7u64; 12];
@@ -32,8 +34,8 @@ fn tell_room(file: &[u8]) {
     say(b"\n");
 }
 
-pub fn tell_b(m: &mut [u64]) {
-    let mut file = [0u8; 720];
+pub fn tell_b(m: &mut [u64; LENGTH]) {
+    let mut file = [0u8; BYTES];
     judge::lines::give_b(m);
     let n = write_file(&mut file, m, tree_of(m, 0));
     tell_areas(front(&file, n));

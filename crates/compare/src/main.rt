@@ -9,18 +9,20 @@ use judge::texts::tell_all;
 use states::counts::COUNTS;
 use states::counts::MODELS;
 use states::counts::count;
+use states::files::BYTES;
 use states::files::Tree;
 use states::files::front;
 use states::files::tree_of;
 use states::files::trees;
 use states::files::write_file;
 use states::memory::CHAINS;
+use states::memory::LENGTH;
 use states::memory::TOTAL;
 use states::memory::at;
 use states::values::find_values;
 
 // Each run in one slot and in four.
-fn hold_runs(m: &mut [u64], file: &[u8], area: &mut [u64]) {
+fn hold_runs(m: &mut [u64; LENGTH], file: &[u8], area: &mut [u64]) {
     let chains = at(m, CHAINS, 0);
     let mut lower: u64 = 0;
     while lower < 9 {
@@ -35,14 +37,14 @@ fn hold_runs(m: &mut [u64], file: &[u8], area: &mut [u64]) {
     }
 }
 
-fn hold_tree(m: &mut [u64], t: Tree, area: &mut [u64]) {
-    let mut file = [0u8; 720];
+fn hold_tree(m: &mut [u64; LENGTH], t: Tree, area: &mut [u64]) {
+    let mut file = [0u8; BYTES];
     let n = write_file(&mut file, m, t);
     hold_runs(m, front(&file, n), area);
     told::hold_sheet(m, front(&file, n), area);
 }
 
-fn hold_trees(m: &mut [u64], area: &mut [u64]) {
+fn hold_trees(m: &mut [u64; LENGTH], area: &mut [u64]) {
     let count = trees(m);
     let mut i: u64 = 0;
     while i < count {
@@ -52,14 +54,14 @@ fn hold_trees(m: &mut [u64], area: &mut [u64]) {
 }
 
 // A model with too many states is left out.
-fn hold_model(m: &mut [u64], area: &mut [u64]) {
+fn hold_model(m: &mut [u64; LENGTH], area: &mut [u64]) {
     if find_values(m) {
         hold_trees(m, area);
         count(m, MODELS);
     }
 }
 
-fn hold_all(m: &mut [u64], area: &mut [u64]) {
+fn hold_all(m: &mut [u64; LENGTH], area: &mut [u64]) {
     let mut j: u64 = 0;
     while j < judge::MODELS {
         judge::begin(m, j);
@@ -69,11 +71,15 @@ fn hold_all(m: &mut [u64], area: &mut [u64]) {
     }
 }
 
+fn tell_total(m: &[u64; LENGTH]) {
+    say(b"models trees runs values large below edges differences:\nall shapes and lines");
+    tell_all(m, TOTAL, COUNTS);
+}
+
 fn main() {
-    let mut m = [0u64; states::memory::LENGTH];
+    let mut m = [0u64; LENGTH];
     let mut area = [7u64; 8193];
     areas::tell_b(&mut m);
     hold_all(&mut m, &mut area);
-    say(b"models trees runs values large below edges differences:\nall shapes and lines");
-    tell_all(&m, TOTAL, COUNTS);
+    tell_total(&m);
 }

@@ -6,8 +6,9 @@ use judge::answers::Run;
 use judge::answers::budget;
 use judge::answers::is_cleared;
 use judge::answers::judge_sheet;
-use states::memory::at;
-use states::memory::put;
+use judge::cells::cell;
+use judge::cells::set_cell;
+use states::memory::LENGTH;
 
 // What stands in the cell past the model's.
 const FOREIGN: u64 = 7777;
@@ -89,7 +90,7 @@ fn in_slots(file: &[u8], lower: u64, budget: u64, slots: u64, area: &mut [u64]) 
 // A run to the last pair, in one slot or in four.
 pub fn run(file: &[u8], lower: u64, slots: u64, area: &mut [u64]) -> Run {
     let p = planned(file, lower);
-    put(area, 0, p.cells, FOREIGN);
+    set_cell(area, p.cells, FOREIGN);
     let t = in_slots(file, lower, budget(p.pairs, slots), slots, area);
     Run {
         pairs: p.pairs,
@@ -97,14 +98,14 @@ pub fn run(file: &[u8], lower: u64, slots: u64, area: &mut [u64]) -> Run {
         refusal: t.refusal,
         done: t.done,
         value: t.value,
-        kept: at(area, 0, p.cells) == FOREIGN,
+        kept: cell(area, p.cells) == FOREIGN,
     }
 }
 
 // The sheet, which clears the model's cells and leaves the one past them.
-pub fn hold_sheet(m: &mut [u64], file: &[u8], area: &mut [u64]) {
+pub fn hold_sheet(m: &mut [u64; LENGTH], file: &[u8], area: &mut [u64]) {
     let p = planned(file, 0);
-    put(area, 0, p.cells, FOREIGN);
+    set_cell(area, p.cells, FOREIGN);
     let a = ratesheet::sheet(file, area);
     judge_sheet(m, a, p, is_cleared(area, p.cells, FOREIGN));
 }

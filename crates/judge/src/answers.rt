@@ -1,4 +1,5 @@
 // What a run and a sheet tell, and whether it is what is due.
+use crate::cells::cell;
 use crate::texts::say;
 use crate::texts::tell;
 use crate::texts::tell_value;
@@ -10,6 +11,7 @@ use states::counts::count;
 use states::memory::CHAINS;
 use states::memory::DUES;
 use states::memory::FIRST;
+use states::memory::LENGTH;
 use states::memory::MOST;
 use states::memory::at;
 use states::values::busiest;
@@ -24,7 +26,7 @@ pub struct Run {
     pub kept: bool,
 }
 
-fn difference(m: &mut [u64], what: u64, agrees: bool) {
+fn difference(m: &mut [u64; LENGTH], what: u64, agrees: bool) {
     count(m, what);
     if !agrees {
         count(m, DIFFERENCES);
@@ -51,7 +53,7 @@ fn is_due(r: Run, due: u64) -> bool {
     r.value == due
 }
 
-fn tell_plan(m: &[u64], lower: u64, r: Run) {
+fn tell_plan(m: &[u64; LENGTH], lower: u64, r: Run) {
     tell(b"\n  lowered", lower);
     tell(b": pairs", r.pairs);
     tell(b" cells", r.cells);
@@ -65,13 +67,13 @@ fn tell_run(r: Run) {
     tell(b" refused", r.refusal);
 }
 
-pub fn judge_run(m: &mut [u64], lower: u64, r: Run) {
+pub fn judge_run(m: &mut [u64; LENGTH], lower: u64, r: Run) {
     let agrees = is_due(r, at(m, DUES, lower));
     difference(m, RUNS, agrees);
 }
 
 // The lines of the scope document are told.
-pub fn tell_line(m: &[u64], lower: u64, r: Run) {
+pub fn tell_line(m: &[u64; LENGTH], lower: u64, r: Run) {
     if at(m, FIRST, 0) != 0 {
         tell_plan(m, lower, r);
         tell_run(r);
@@ -81,7 +83,7 @@ pub fn tell_line(m: &[u64], lower: u64, r: Run) {
 fn all_zero(area: &[u64], cells: u64) -> bool {
     let mut i: u64 = 0;
     while i < cells {
-        if at(area, 0, i) != 0 {
+        if cell(area, i) != 0 {
             return false;
         }
         i += 1;
@@ -91,7 +93,7 @@ fn all_zero(area: &[u64], cells: u64) -> bool {
 
 // Whether the model's cells are 0 and the one past them is as it was.
 pub fn is_cleared(area: &[u64], cells: u64, foreign: u64) -> bool {
-    if at(area, 0, cells) != foreign {
+    if cell(area, cells) != foreign {
         return false;
     }
     all_zero(area, cells)
@@ -106,7 +108,7 @@ pub fn budget(pairs: u64, slots: u64) -> u64 {
 }
 
 // Past the chains the values due are 0, as the numerators are.
-fn same_numerators(m: &[u64], numerators: [u64; 8]) -> bool {
+fn same_numerators(m: &[u64; LENGTH], numerators: [u64; 8]) -> bool {
     let mut k: usize = 0;
     while k < 8 {
         if numerators[k] != at(m, DUES, k as u64 + 1) {
@@ -117,7 +119,7 @@ fn same_numerators(m: &[u64], numerators: [u64; 8]) -> bool {
     true
 }
 
-fn same_counts(m: &[u64], a: SheetAnswer, r: Run) -> bool {
+fn same_counts(m: &[u64; LENGTH], a: SheetAnswer, r: Run) -> bool {
     if a.pairs != r.pairs {
         return false;
     }
@@ -153,7 +155,7 @@ fn is_too_large(a: SheetAnswer) -> bool {
     a.busiest == 0
 }
 
-fn is_sheet(m: &[u64], a: SheetAnswer, r: Run) -> bool {
+fn is_sheet(m: &[u64; LENGTH], a: SheetAnswer, r: Run) -> bool {
     let due = at(m, DUES, 0);
     if due == MOST {
         return is_too_large(a);
@@ -172,7 +174,7 @@ fn is_sheet(m: &[u64], a: SheetAnswer, r: Run) -> bool {
 }
 
 // `p` has the plan; `cleared` is whether the cells are as they have to be.
-pub fn judge_sheet(m: &mut [u64], a: SheetAnswer, p: Run, cleared: bool) {
+pub fn judge_sheet(m: &mut [u64; LENGTH], a: SheetAnswer, p: Run, cleared: bool) {
     if !cleared {
         difference(m, TREES, false);
         return;

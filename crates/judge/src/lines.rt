@@ -5,6 +5,7 @@ use states::counts::COUNTS;
 use states::counts::DIFFERENCES;
 use states::draws::give_model;
 use states::memory::FIRST;
+use states::memory::LENGTH;
 use states::memory::TALLY;
 use states::memory::at;
 use states::memory::clear;
@@ -95,7 +96,7 @@ fn say_line(i: u64) {
     say(&name);
 }
 
-pub fn give_b(m: &mut [u64]) {
+pub fn give_b(m: &mut [u64; LENGTH]) {
     give_model(m, B);
 }
 
@@ -104,14 +105,14 @@ fn first_leaf(i: u64) -> u64 {
     if i == 1 { 2 } else { 1 }
 }
 
-pub fn begin_line(m: &mut [u64], i: u64) {
+pub fn begin_line(m: &mut [u64; LENGTH], i: u64) {
     give_model(m, given(i));
     put(m, FIRST, 0, first_leaf(i));
     clear(m, TALLY, COUNTS);
     say_line(i);
 }
 
-pub fn end_line(m: &[u64]) {
+pub fn end_line(m: &[u64; LENGTH]) {
     tell(b"\n  differences", at(m, TALLY, DIFFERENCES));
     say(b"\n");
 }

@@ -10,6 +10,7 @@ use states::edges::first_side;
 use states::edges::is_edge;
 use states::edges::second_side;
 use states::memory::FIRST;
+use states::memory::LENGTH;
 use states::memory::SHAPE;
 use states::memory::SIDE;
 use states::memory::TALLY;
@@ -112,7 +113,7 @@ fn say_shape(i: u64) {
     say(&name);
 }
 
-fn draw_next(m: &mut [u64]) {
+fn draw_next(m: &mut [u64; LENGTH]) {
     if at(m, SIDE, 0) == 1 {
         second_side(m);
         return;
@@ -123,7 +124,7 @@ fn draw_next(m: &mut [u64]) {
     }
 }
 
-fn begin_shape(m: &mut [u64], i: u64) {
+fn begin_shape(m: &mut [u64; LENGTH], i: u64) {
     put(m, FIRST, 0, 0);
     put(m, SIDE, 0, 0);
     clear(m, TALLY, COUNTS);
@@ -131,7 +132,7 @@ fn begin_shape(m: &mut [u64], i: u64) {
     say_shape(i);
 }
 
-pub fn begin_drawn(m: &mut [u64], j: u64) {
+pub fn begin_drawn(m: &mut [u64; LENGTH], j: u64) {
     if j % 80 == 0 {
         begin_shape(m, j / 80);
         draw_next(m);
@@ -140,13 +141,13 @@ pub fn begin_drawn(m: &mut [u64], j: u64) {
     draw_next(m);
 }
 
-fn count_edge(m: &mut [u64]) {
+fn count_edge(m: &mut [u64; LENGTH]) {
     if is_edge(m) {
         count(m, EDGES);
     }
 }
 
-pub fn end_drawn(m: &mut [u64], j: u64) {
+pub fn end_drawn(m: &mut [u64; LENGTH], j: u64) {
     count_edge(m);
     if j % 80 == 79 {
         tell_all(m, TALLY, COUNTS);

@@ -1,7 +1,8 @@
 // Words and numbers on standard output.
+use crate::cells::cell;
 use libc::STDOUT_FILENO;
 use states::memory::MOST;
-use states::memory::at;
+use states::memory::plus;
 
 pub fn say(text: &[u8]) {
     io::write_all(STDOUT_FILENO, text);
@@ -21,11 +22,11 @@ pub fn tell_value(v: u64) {
     }
 }
 
-// The first numbers of a region, in a line.
-pub fn tell_all(m: &[u64], region: u64, n: u64) {
+// So many numbers from a place on, in a line.
+pub fn tell_all(numbers: &[u64], place: u64, n: u64) {
     let mut i: u64 = 0;
     while i < n {
-        tell(b"", at(m, region, i));
+        tell(b"", cell(numbers, plus(place, i)));
         i += 1;
     }
     say(b"\n");

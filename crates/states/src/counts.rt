@@ -1,4 +1,5 @@
 // What is counted.
+use crate::memory::LENGTH;
 use crate::memory::MOST;
 use crate::memory::TALLY;
 use crate::memory::TOTAL;
@@ -22,12 +23,12 @@ pub const DIFFERENCES: u64 = 7;
 
 pub const COUNTS: u64 = 8;
 
-pub fn count(m: &mut [u64], what: u64) {
+pub fn count(m: &mut [u64; LENGTH], what: u64) {
     add(m, TALLY, what, 1);
     add(m, TOTAL, what, 1);
 }
 
-pub fn count_value(m: &mut [u64], v: u64) {
+pub fn count_value(m: &mut [u64; LENGTH], v: u64) {
     count(m, VALUES);
     if v == MOST {
         count(m, LARGE);

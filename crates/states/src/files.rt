@@ -3,12 +3,16 @@ use crate::memory::CENTRES;
 use crate::memory::CHAINS;
 use crate::memory::CHANCE;
 use crate::memory::FIRST;
+use crate::memory::LENGTH;
 use crate::memory::LOADS;
 use crate::memory::WINDOWS;
 use crate::memory::at;
 use crate::memory::minus;
 use crate::memory::plus;
 use crate::memory::times;
+
+// The length of the array that a file is written to; the longest file has fewer bytes.
+pub const BYTES: usize = 720;
 
 // Digit j of the pattern, in base 4, is the number of joins after leaf j + 1, as far as there are subtrees to join; after the last leaf all are joined.
 // The leaves are the centres step * i + turn modulo 17, for i from 0 to 16, as far as there are such; with a step from 1 to 16 each centre comes once.
@@ -28,42 +32,42 @@ struct Written {
     pattern: u64,
 }
 
-fn push(file: &mut [u8], n: usize, x: u64) -> usize {
-    if n < file.len() {
+fn push(file: &mut [u8; BYTES], n: usize, x: u64) -> usize {
+    if n < BYTES {
         file[n] = (x % 256) as u8;
         return n + 1;
     }
     n
 }
 
-fn push_window(file: &mut [u8], n: usize, m: &[u64], k: u64) -> usize {
+fn push_three(file: &mut [u8; BYTES], n: usize, x: u64, y: u64, z: u64) -> usize {
+    let a = push(file, n, x);
+    let b = push(file, a, y);
+    push(file, b, z)
+}
+
+fn push_window(file: &mut [u8; BYTES], n: usize, m: &[u64; LENGTH], k: u64) -> usize {
     if at(m, CHAINS, 0) <= k {
         return n;
     }
-    let a = push(file, n, 2);
-    let b = push(file, a, plus(k, 1));
-    push(file, b, at(m, WINDOWS, k))
+    push_three(file, n, 2, plus(k, 1), at(m, WINDOWS, k))
 }
 
-fn push_load(file: &mut [u8], n: usize, i: u64, load: u64) -> usize {
-    if load == 0 {
-        return n;
-    }
-    let a = push(file, n, 3);
-    let b = push(file, a, i / 8 + 1);
-    let c = push(file, b, i % 8 + 1);
-    let d = push(file, c, load / 256);
-    push(file, d, load)
-}
-
-fn push_record(file: &mut [u8], n: usize, m: &[u64], i: u64) -> usize {
+// A window, or a load if there is one.
+fn push_record(file: &mut [u8; BYTES], n: usize, m: &[u64; LENGTH], i: u64) -> usize {
     if i < 8 {
         return push_window(file, n, m, i);
     }
-    push_load(file, n, i - 8, at(m, LOADS, i - 8))
+    let load = at(m, LOADS, i - 8);
+    if load == 0 {
+        return n;
+    }
+    let a = push_three(file, n, 3, i / 8, i % 8 + 1);
+    let b = push(file, a, load / 256);
+    push(file, b, load)
 }
 
-fn push_records(file: &mut [u8], n: usize, m: &[u64]) -> usize {
+fn push_records(file: &mut [u8; BYTES], n: usize, m: &[u64; LENGTH]) -> usize {
     let mut n = n;
     let mut i: u64 = 0;
     while i < 136 {
@@ -85,7 +89,7 @@ fn joins_after(last: bool, open: u64, pattern: u64) -> u64 {
     }
 }
 
-fn push_leaf(file: &mut [u8], w: Written, centres: u64, c: u64) -> Written {
+fn push_leaf(file: &mut [u8; BYTES], w: Written, centres: u64, c: u64) -> Written {
     let a = push(file, w.bytes, 4);
     let leaves = plus(w.leaves, 1);
     let open = plus(w.open, 1);
@@ -99,7 +103,7 @@ fn push_leaf(file: &mut [u8], w: Written, centres: u64, c: u64) -> Written {
     }
 }
 
-fn push_join(file: &mut [u8], w: Written) -> Written {
+fn push_join(file: &mut [u8; BYTES], w: Written) -> Written {
     Written {
         bytes: push(file, w.bytes, 5),
         next: w.next,
@@ -110,19 +114,15 @@ fn push_join(file: &mut [u8], w: Written) -> Written {
     }
 }
 
-// A join if one is due, else the next leaf if its number is that of a centre.
-fn push_node(file: &mut [u8], w: Written, t: Tree, centres: u64) -> Written {
-    if w.joins != 0 {
-        return push_join(file, w);
+// Leaf i of a tree, 0 past the last one.
+fn leaf_of(t: Tree, i: u64) -> u64 {
+    if i < 17 {
+        return plus(times(t.step, i), t.turn) % 17;
     }
-    let c = plus(times(t.step, w.next), t.turn) % 17;
-    if w.next < 17 {
-        if c != 0 {
-            if c <= centres {
-                return push_leaf(file, w, centres, c);
-            }
-        }
-    }
+    0
+}
+
+fn pass_leaf(w: Written) -> Written {
     Written {
         bytes: w.bytes,
         next: plus(w.next, 1),
@@ -133,7 +133,22 @@ fn push_node(file: &mut [u8], w: Written, t: Tree, centres: u64) -> Written {
     }
 }
 
-fn push_tree(file: &mut [u8], n: usize, t: Tree, centres: u64) -> usize {
+// A join if one is due, else the next leaf if its number is that of a centre.
+fn push_node(file: &mut [u8; BYTES], w: Written, t: Tree, centres: u64) -> Written {
+    if w.joins != 0 {
+        return push_join(file, w);
+    }
+    let c = leaf_of(t, w.next);
+    if c == 0 {
+        return pass_leaf(w);
+    }
+    if centres < c {
+        return pass_leaf(w);
+    }
+    push_leaf(file, w, centres, c)
+}
+
+fn push_tree(file: &mut [u8; BYTES], n: usize, t: Tree, centres: u64) -> usize {
     let mut w = Written {
         bytes: n,
         next: 0,
@@ -151,7 +166,7 @@ fn push_tree(file: &mut [u8], n: usize, t: Tree, centres: u64) -> usize {
 }
 
 // How many trees are tried: where the first leaf is given, and for one centre, one.
-pub fn trees(m: &[u64]) -> u64 {
+pub fn trees(m: &[u64; LENGTH]) -> u64 {
     if at(m, FIRST, 0) != 0 {
         return 1;
     }
@@ -170,7 +185,7 @@ fn pattern_of(i: u64, chance: u64) -> u64 {
 }
 
 // The leaves in order, from the fourth tree on in an order by chance; where the first leaf is given, in order from there on.
-pub fn tree_of(m: &[u64], i: u64) -> Tree {
+pub fn tree_of(m: &[u64; LENGTH], i: u64) -> Tree {
     let chance = at(m, CHANCE, 0);
     let pattern = pattern_of(i, chance);
     if i < 3 {
@@ -188,20 +203,22 @@ pub fn tree_of(m: &[u64], i: u64) -> Tree {
 }
 
 // The number of bytes.
-pub fn write_file(file: &mut [u8], m: &[u64], t: Tree) -> usize {
+pub fn write_file(file: &mut [u8; BYTES], m: &[u64; LENGTH], t: Tree) -> usize {
     let centres = at(m, CENTRES, 0);
-    let a = push(file, 0, 1);
-    let b = push(file, a, centres);
-    let c = push(file, b, at(m, CHAINS, 0));
-    let d = push_records(file, c, m);
-    let e = push_tree(file, d, t, centres);
-    push(file, e, 6)
+    let a = push_three(file, 0, 1, centres, at(m, CHAINS, 0));
+    let b = push_records(file, a, m);
+    let c = push_tree(file, b, t, centres);
+    push(file, c, 6)
 }
 
 // The first n bytes, or all if there are fewer.
-pub fn front(file: &[u8], n: usize) -> &[u8] {
-    if n <= file.len() {
-        return &file[..n];
+fn first(bytes: &[u8], n: usize) -> &[u8] {
+    if n <= bytes.len() {
+        return &bytes[..n];
     }
-    file
+    bytes
+}
+
+pub fn front(file: &[u8; BYTES], n: usize) -> &[u8] {
+    first(file, n)
 }

@@ -1,15 +1,15 @@
-// One slice of numbers, in regions, holds the model at hand, its table of weights, a state and the counts; every function is lent it whole, which keeps
+// One array of numbers, in regions, holds the model at hand, its table of weights, a state and the counts; every function is lent it whole, which keeps
 // their proofs small. Reading and writing are defined for all places, sums and products for all numbers.
 use arith::Fits;
 
 // A number of 2^64 or more. No weight is 2^64 - 1, which has the prime factor 6700417.
 pub const MOST: u64 = 18446744073709551615;
 
-// One number each: what the model has, the entries of one centre's table, and the last number drawn.
-pub const CENTRES: u64 = 0;
+// Of two models on both sides of 2^64: which one is at hand, 0 if none, and the value of the first.
+pub const SIDE: u64 = 0;
 
-pub const CHAINS: u64 = 1;
-
+pub const LOW: u64 = 1;
+// The entries of one centre's table, and the last number drawn.
 pub const SIZE: u64 = 2;
 
 pub const SEED: u64 = 3;
@@ -17,10 +17,10 @@ pub const SEED: u64 = 3;
 pub const CHANCE: u64 = 4;
 
 pub const FIRST: u64 = 5;
-// Of two models on both sides of 2^64: which one is at hand, 0 if none, and the value of the first.
-pub const SIDE: u64 = 6;
+// What the model has.
+pub const CENTRES: u64 = 6;
 
-pub const LOW: u64 = 7;
+pub const CHAINS: u64 = 7;
 // By chain: its window, what one message adds to an index of the table, and a centre that it visits.
 pub const WINDOWS: u64 = 8;
 
@@ -41,14 +41,14 @@ pub const SHAPE: u64 = 96;
 pub const LOADS: u64 = 128;
 // The weights of each centre.
 pub const TABLE: u64 = 256;
-// The length of the slice.
+// The length of the array.
 pub const LENGTH: usize = 8448;
 
-pub fn at(m: &[u64], region: u64, i: u64) -> u64 {
+pub fn at(m: &[u64; LENGTH], region: u64, i: u64) -> u64 {
     if region < 1000 {
         if i < 10000 {
             let j = (region + i) as usize;
-            if j < m.len() {
+            if j < LENGTH {
                 return m[j];
             }
         }
@@ -56,11 +56,11 @@ pub fn at(m: &[u64], region: u64, i: u64) -> u64 {
     0
 }
 
-pub fn put(m: &mut [u64], region: u64, i: u64, x: u64) {
+pub fn put(m: &mut [u64; LENGTH], region: u64, i: u64, x: u64) {
     if region < 1000 {
         if i < 10000 {
             let j = (region + i) as usize;
-            if j < m.len() {
+            if j < LENGTH {
                 m[j] = x;
             }
         }
@@ -86,12 +86,12 @@ pub fn minus(a: u64, b: u64) -> u64 {
     if b <= a { a - b } else { 0 }
 }
 
-pub fn add(m: &mut [u64], region: u64, i: u64, x: u64) {
+pub fn add(m: &mut [u64; LENGTH], region: u64, i: u64, x: u64) {
     let sum = plus(at(m, region, i), x);
     put(m, region, i, sum);
 }
 
-pub fn clear(m: &mut [u64], region: u64, cells: u64) {
+pub fn clear(m: &mut [u64; LENGTH], region: u64, cells: u64) {
     let mut i: u64 = 0;
     while i < cells {
         put(m, region, i, 0);

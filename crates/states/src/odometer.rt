@@ -3,6 +3,7 @@
 // go back and one goes to the centre after it: an odometer whose digits are the numbers of messages away from home.
 use crate::memory::CENTRES;
 use crate::memory::HOMES;
+use crate::memory::LENGTH;
 use crate::memory::LOADS;
 use crate::memory::PLACES;
 use crate::memory::SIZE;
@@ -18,7 +19,7 @@ use crate::memory::put;
 use crate::memory::times;
 use crate::table::messages;
 
-fn window_of(m: &[u64], k: u64, lower: u64) -> u64 {
+fn window_of(m: &[u64; LENGTH], k: u64, lower: u64) -> u64 {
     let window = at(m, WINDOWS, k);
     if plus(k, 1) == lower {
         return minus(window, 1);
@@ -26,36 +27,46 @@ fn window_of(m: &[u64], k: u64, lower: u64) -> u64 {
     window
 }
 
-fn first_state(m: &mut [u64], lower: u64) {
+// All messages of a chain at its home.
+fn begin_at_home(m: &mut [u64; LENGTH], k: u64, lower: u64) {
+    let x = times(window_of(m, k, lower), at(m, STEPS, k));
+    let home = at(m, HOMES, k);
+    add(m, PLACES, home, x);
+}
+
+fn first_state(m: &mut [u64; LENGTH], lower: u64) {
     clear(m, PLACES, 16);
     let mut k: u64 = 0;
     while k < 8 {
-        let x = times(window_of(m, k, lower), at(m, STEPS, k));
-        let home = at(m, HOMES, k);
-        add(m, PLACES, home, x);
+        begin_at_home(m, k, lower);
         k += 1;
     }
 }
 
-fn shift(m: &mut [u64], from: u64, to: u64, x: u64) {
+fn shift(m: &mut [u64; LENGTH], from: u64, to: u64, x: u64) {
     let left = minus(at(m, PLACES, from), x);
     put(m, PLACES, from, left);
     add(m, PLACES, to, x);
 }
 
+// What the messages of a chain at a centre add to its index.
+fn part(m: &[u64; LENGTH], c: u64, k: u64) -> u64 {
+    times(messages(m, at(m, PLACES, c), k), at(m, STEPS, k))
+}
+
 // Whether a digit went up; else it went back to 0.
-fn step(m: &mut [u64], c: u64, k: u64, home: u64) -> bool {
-    let one = at(m, STEPS, k);
-    if messages(m, at(m, PLACES, home), k) == 0 {
-        let n = messages(m, at(m, PLACES, c), k);
-        shift(m, c, home, times(n, one));
+fn step(m: &mut [u64; LENGTH], c: u64, k: u64, home: u64) -> bool {
+    if part(m, home, k) == 0 {
+        let away = part(m, c, k);
+        shift(m, c, home, away);
         return false;
     }
+    let one = at(m, STEPS, k);
     shift(m, home, c, one);
     true
 }
 
-fn step_at(m: &mut [u64], i: u64) -> bool {
+fn step_at(m: &mut [u64; LENGTH], i: u64) -> bool {
     if at(m, LOADS, i) == 0 {
         return false;
     }
@@ -67,7 +78,7 @@ fn step_at(m: &mut [u64], i: u64) -> bool {
 }
 
 // The next state; false if it is the first one again.
-fn next_state(m: &mut [u64]) -> bool {
+fn next_state(m: &mut [u64; LENGTH]) -> bool {
     let mut i: u64 = 0;
     while i < 128 {
         if step_at(m, i) {
@@ -78,7 +89,7 @@ fn next_state(m: &mut [u64]) -> bool {
     false
 }
 
-fn state_weight(m: &[u64]) -> u64 {
+fn state_weight(m: &[u64; LENGTH]) -> u64 {
     let centres = at(m, CENTRES, 0);
     let size = at(m, SIZE, 0);
     let mut weight: u64 = 1;
@@ -92,7 +103,7 @@ fn state_weight(m: &[u64]) -> u64 {
     weight
 }
 
-fn sum_states(m: &mut [u64], most: u64) -> u64 {
+fn sum_states(m: &mut [u64; LENGTH], most: u64) -> u64 {
     let mut sum: u64 = 0;
     let mut s: u64 = 0;
     while s < most {
@@ -106,7 +117,7 @@ fn sum_states(m: &mut [u64], most: u64) -> u64 {
 }
 
 // G(N), or with a chain's window one less (0 lowers none); MOST if that is 2^64 or more, 0 if there are too many states.
-pub fn value(m: &mut [u64], lower: u64) -> u64 {
+pub fn value(m: &mut [u64; LENGTH], lower: u64) -> u64 {
     first_state(m, lower);
     sum_states(m, 3000)
 }

@@ -1,6 +1,7 @@
 // The values due for the model at hand, and its busiest centre.
 use crate::counts::count_value;
 use crate::memory::DUES;
+use crate::memory::LENGTH;
 use crate::memory::LOADS;
 use crate::memory::WINDOWS;
 use crate::memory::at;
@@ -11,14 +12,14 @@ use crate::odometer::value;
 use crate::table::fill_table;
 
 // Whether there is a run: the whole one, and one with a chain lowered that has messages.
-pub fn is_run(m: &[u64], lower: u64) -> bool {
+pub fn is_run(m: &[u64; LENGTH], lower: u64) -> bool {
     if lower == 0 {
         return true;
     }
     at(m, WINDOWS, lower - 1) != 0
 }
 
-fn find_value(m: &mut [u64], lower: u64) {
+fn find_value(m: &mut [u64; LENGTH], lower: u64) {
     if is_run(m, lower) {
         let v = value(m, lower);
         put(m, DUES, lower, v);
@@ -26,7 +27,7 @@ fn find_value(m: &mut [u64], lower: u64) {
     }
 }
 
-fn find_all(m: &mut [u64]) {
+fn find_all(m: &mut [u64; LENGTH]) {
     let mut lower: u64 = 0;
     while lower < 9 {
         find_value(m, lower);
@@ -35,7 +36,7 @@ fn find_all(m: &mut [u64]) {
 }
 
 // The values due, by states; false if there are too many states.
-pub fn find_values(m: &mut [u64]) -> bool {
+pub fn find_values(m: &mut [u64; LENGTH]) -> bool {
     clear(m, DUES, 9);
     if !fill_table(m) {
         return false;
@@ -70,7 +71,7 @@ fn busier(b: Busy, i: u64, load: u64) -> Busy {
     }
 }
 
-pub fn busiest(m: &[u64]) -> u64 {
+pub fn busiest(m: &[u64; LENGTH]) -> u64 {
     let mut b = Busy {
         centre: 1,
         most: 0,

@@ -1,4 +1,4 @@
--- The models counted stay at most 1052; the slices keep their lengths.
+-- The models counted stay at most 1052; the area keeps its length.
 use Prim.Native.Nat.{_-_, _≤_}
 use mathlib.Core.Path.{_≡_}
 use lib.ListN.{length}
@@ -7,7 +7,7 @@ use Rattle.compare.proofs.hold_all.Statement.{statement}
 use Rattle.compare.proofs.hold_all.Tie as tie
 
 abbrev Inv-loop : tie.InvT-loop
-Inv-loop m₀ area₀ j₀ m area j = (length m ≡ length m₀) × (length area ≡ length area₀) × (j ≤ 1052)
+Inv-loop m₀ area₀ j₀ m area j = (length area ≡ length area₀) × (j ≤ 1052)
 
 abbrev μ-loop : tie.MeasureT-loop
 μ-loop m₀ area₀ j₀ m area j = 1052 - j
@@ -36,9 +36,6 @@ loop-again c = search needs
 same-length : tie.Need-same-length Inv-loop μ-loop
 same-length c = search needs
 
-same-length-2 : tie.Need-same-length-2 Inv-loop μ-loop
-same-length-2 c = search needs
-
 returns : tie.Need-returns Inv-loop μ-loop
 returns c = search needs
 
@@ -56,5 +53,4 @@ hold-all-spec =
     loop-less
     loop-again
     same-length
-    same-length-2
     returns)

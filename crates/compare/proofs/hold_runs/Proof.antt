@@ -1,4 +1,4 @@
--- The chains counted stay at most 9; the slices keep their lengths.
+-- The chains counted stay at most 9; the area keeps its length.
 use Prim.Native.Nat.{_-_, _≤_}
 use mathlib.Core.Path.{_≡_}
 use lib.ListN.{length}
@@ -7,7 +7,7 @@ use Rattle.compare.proofs.hold_runs.Statement.{statement}
 use Rattle.compare.proofs.hold_runs.Tie as tie
 
 abbrev Inv-loop : tie.InvT-loop
-Inv-loop m₀ file area₀ chains lower₀ m area lower = (length m ≡ length m₀) × (length area ≡ length area₀) × (lower ≤ 9)
+Inv-loop m₀ file area₀ chains lower₀ m area lower = (length area ≡ length area₀) × (lower ≤ 9)
 
 abbrev μ-loop : tie.MeasureT-loop
 μ-loop m₀ file area₀ chains lower₀ m area lower = 9 - lower
@@ -20,9 +20,6 @@ loop-holds c = search needs
 
 same-length : tie.Need-same-length Inv-loop μ-loop
 same-length c = search needs
-
-same-length-2 : tie.Need-same-length-2 Inv-loop μ-loop
-same-length-2 c = search needs
 
 returns : tie.Need-returns Inv-loop μ-loop
 returns c = search needs
@@ -51,11 +48,8 @@ loop-less c = search needs
 loop-again : tie.Need-loop-again Inv-loop μ-loop
 loop-again c = search needs
 
-same-length-3 : tie.Need-same-length-3 Inv-loop μ-loop
-same-length-3 c = search needs
-
-same-length-4 : tie.Need-same-length-4 Inv-loop μ-loop
-same-length-4 c = search needs
+same-length-2 : tie.Need-same-length-2 Inv-loop μ-loop
+same-length-2 c = search needs
 
 returns-2 : tie.Need-returns-2 Inv-loop μ-loop
 returns-2 c = search needs
@@ -69,7 +63,6 @@ hold-runs-spec =
     at-requires
     loop-holds
     same-length
-    same-length-2
     returns
     run-requires
     judge-run-requires
@@ -79,6 +72,5 @@ hold-runs-spec =
     add-lower
     loop-less
     loop-again
-    same-length-3
-    same-length-4
+    same-length-2
     returns-2)

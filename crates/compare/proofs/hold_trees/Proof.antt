@@ -1,4 +1,4 @@
--- The trees counted stay at most as many as there are; the slices keep their lengths.
+-- The trees counted stay at most as many as there are; the area keeps its length.
 use Prim.Native.Nat.{_-_, _≤_}
 use mathlib.Core.Path.{_≡_}
 use lib.ListN.{length}
@@ -7,7 +7,7 @@ use Rattle.compare.proofs.hold_trees.Statement.{statement}
 use Rattle.compare.proofs.hold_trees.Tie as tie
 
 abbrev Inv-loop : tie.InvT-loop
-Inv-loop m₀ area₀ count i₀ m area i = (length m ≡ length m₀) × (length area ≡ length area₀) × (i ≤ count)
+Inv-loop m₀ area₀ count i₀ m area i = (length area ≡ length area₀) × (i ≤ count)
 
 abbrev μ-loop : tie.MeasureT-loop
 μ-loop m₀ area₀ count i₀ m area i = count - i
@@ -36,9 +36,6 @@ loop-again c = search needs
 same-length : tie.Need-same-length Inv-loop μ-loop
 same-length c = search needs
 
-same-length-2 : tie.Need-same-length-2 Inv-loop μ-loop
-same-length-2 c = search needs
-
 returns : tie.Need-returns Inv-loop μ-loop
 returns c = search needs
 
@@ -56,5 +53,4 @@ hold-trees-spec =
     loop-less
     loop-again
     same-length
-    same-length-2
     returns)

@@ -5,10 +5,10 @@ use Rattle.judge.proofs.texts.tell_all.Statement.{statement}
 use Rattle.judge.proofs.texts.tell_all.Tie as tie
 
 abbrev Inv-loop : tie.InvT-loop
-Inv-loop m region n i₀ t5 t6 i = i ≤ n
+Inv-loop numbers place n i₀ t5 t6 i = i ≤ n
 
 abbrev μ-loop : tie.MeasureT-loop
-μ-loop m region n i₀ t5 t6 i = n - i
+μ-loop numbers place n i₀ t5 t6 i = n - i
 
 loop-holds : tie.Need-loop-holds Inv-loop μ-loop
 loop-holds c = search needs
@@ -16,8 +16,11 @@ loop-holds c = search needs
 slice-aggregate-tell : tie.Need-slice-aggregate-tell Inv-loop μ-loop
 slice-aggregate-tell c = search needs
 
-at-requires : tie.Need-at-requires Inv-loop μ-loop
-at-requires c κs = search needs
+plus-requires : tie.Need-plus-requires Inv-loop μ-loop
+plus-requires c κs = search needs
+
+cell-requires : tie.Need-cell-requires Inv-loop μ-loop
+cell-requires c κs = search needs
 
 tell-requires : tie.Need-tell-requires Inv-loop μ-loop
 tell-requires c κs = search needs
@@ -48,7 +51,8 @@ tell-all-spec =
     μ-loop
     loop-holds
     slice-aggregate-tell
-    at-requires
+    plus-requires
+    cell-requires
     tell-requires
     add-i
     loop-less

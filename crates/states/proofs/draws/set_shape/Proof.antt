@@ -1,13 +1,11 @@
--- The numbers passed stay at most 10; the slice keeps its length.
+-- The numbers passed stay at most 10.
 use Prim.Native.Nat.{_-_, _≤_}
-use mathlib.Core.Path.{_≡_}
-use lib.ListN.{length}
 use borrow.Author.Needs.{needs}
 use Rattle.states.proofs.draws.set_shape.Statement.{statement}
 use Rattle.states.proofs.draws.set_shape.Tie as tie
 
 abbrev Inv-loop : tie.InvT-loop
-Inv-loop m₀ shape i₀ m i = (length m ≡ length m₀) × (i ≤ 10)
+Inv-loop m₀ shape i₀ m i = i ≤ 10
 
 abbrev μ-loop : tie.MeasureT-loop
 μ-loop m₀ shape i₀ m i = 10 - i
@@ -36,9 +34,6 @@ loop-less c = search needs
 loop-again : tie.Need-loop-again Inv-loop μ-loop
 loop-again c = search needs
 
-same-length : tie.Need-same-length Inv-loop μ-loop
-same-length c = search needs
-
 returns : tie.Need-returns Inv-loop μ-loop
 returns c = search needs
 
@@ -56,5 +51,4 @@ set-shape-spec =
     add-i
     loop-less
     loop-again
-    same-length
     returns)

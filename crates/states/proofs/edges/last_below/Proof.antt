@@ -1,13 +1,11 @@
--- Half the digit is smaller; the slice keeps its length.
+-- Half the digit is smaller.
 use Prim.Native.Nat.{_-_, _≤_}
-use mathlib.Core.Path.{_≡_}
-use lib.ListN.{length}
 use borrow.Author.Needs.{needs}
 use Rattle.states.proofs.edges.last_below.Statement.{statement}
 use Rattle.states.proofs.edges.last_below.Tie as tie
 
 abbrev Inv-loop : tie.InvT-loop
-Inv-loop m₀ load₀ digit₀ m load digit = length m ≡ length m₀
+Inv-loop m₀ load₀ digit₀ m load digit = digit ≤ digit₀
 
 abbrev μ-loop : tie.MeasureT-loop
 μ-loop m₀ load₀ digit₀ m load digit = digit
@@ -24,13 +22,10 @@ loop-less c = search needs
 loop-again : tie.Need-loop-again Inv-loop μ-loop
 loop-again c = search needs
 
-same-length : tie.Need-same-length Inv-loop μ-loop
-same-length c = search needs
-
 returns : tie.Need-returns Inv-loop μ-loop
 returns c = search needs
 
 pub last-below-spec : {M : Type 1} → statement M
 last-below-spec =
     tie.close
-    (tie.spec Inv-loop μ-loop loop-holds raised-requires loop-less loop-again same-length returns)
+    (tie.spec Inv-loop μ-loop loop-holds raised-requires loop-less loop-again returns)

@@ -1,13 +1,11 @@
--- The records counted stay at most 136; the file keeps its length.
+-- The records counted stay at most 136.
 use Prim.Native.Nat.{_-_, _≤_}
-use mathlib.Core.Path.{_≡_}
-use lib.ListN.{length}
 use borrow.Author.Needs.{needs}
 use Rattle.states.proofs.files.push_records.Statement.{statement}
 use Rattle.states.proofs.files.push_records.Tie as tie
 
 abbrev Inv-loop : tie.InvT-loop
-Inv-loop file₀ n m n₀ i₀ file n' i = (length file ≡ length file₀) × (i ≤ 136)
+Inv-loop file₀ n m n₀ i₀ file n' i = i ≤ 136
 
 abbrev μ-loop : tie.MeasureT-loop
 μ-loop file₀ n m n₀ i₀ file n' i = 136 - i
@@ -27,9 +25,6 @@ loop-less c = search needs
 loop-again : tie.Need-loop-again Inv-loop μ-loop
 loop-again c = search needs
 
-same-length : tie.Need-same-length Inv-loop μ-loop
-same-length c = search needs
-
 returns : tie.Need-returns Inv-loop μ-loop
 returns c = search needs
 
@@ -44,5 +39,4 @@ push-records-spec =
     add-i
     loop-less
     loop-again
-    same-length
     returns)

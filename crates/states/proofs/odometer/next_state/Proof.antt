@@ -1,13 +1,11 @@
--- The digits counted stay at most 128; the slice keeps its length.
+-- The digits counted stay at most 128.
 use Prim.Native.Nat.{_-_, _≤_}
-use mathlib.Core.Path.{_≡_}
-use lib.ListN.{length}
 use borrow.Author.Needs.{needs}
 use Rattle.states.proofs.odometer.next_state.Statement.{statement}
 use Rattle.states.proofs.odometer.next_state.Tie as tie
 
 abbrev Inv-loop : tie.InvT-loop
-Inv-loop m₀ i₀ m i = (length m ≡ length m₀) × (i ≤ 128)
+Inv-loop m₀ i₀ m i = i ≤ 128
 
 abbrev μ-loop : tie.MeasureT-loop
 μ-loop m₀ i₀ m i = 128 - i
@@ -17,9 +15,6 @@ loop-holds c = search needs
 
 step-at-requires : tie.Need-step-at-requires Inv-loop μ-loop
 step-at-requires c κs = search needs
-
-same-length : tie.Need-same-length Inv-loop μ-loop
-same-length c = search needs
 
 returns : tie.Need-returns Inv-loop μ-loop
 returns c = search needs
@@ -33,9 +28,6 @@ loop-less c = search needs
 loop-again : tie.Need-loop-again Inv-loop μ-loop
 loop-again c = search needs
 
-same-length-2 : tie.Need-same-length-2 Inv-loop μ-loop
-same-length-2 c = search needs
-
 returns-2 : tie.Need-returns-2 Inv-loop μ-loop
 returns-2 c = search needs
 
@@ -47,10 +39,8 @@ next-state-spec =
     μ-loop
     loop-holds
     step-at-requires
-    same-length
     returns
     add-i
     loop-less
     loop-again
-    same-length-2
     returns-2)

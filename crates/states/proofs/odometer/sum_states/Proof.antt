@@ -1,13 +1,11 @@
--- The states counted stay at most as many as are allowed; the slice keeps its length.
+-- The states counted stay at most as many as are allowed.
 use Prim.Native.Nat.{_-_, _≤_}
-use mathlib.Core.Path.{_≡_}
-use lib.ListN.{length}
 use borrow.Author.Needs.{needs}
 use Rattle.states.proofs.odometer.sum_states.Statement.{statement}
 use Rattle.states.proofs.odometer.sum_states.Tie as tie
 
 abbrev Inv-loop : tie.InvT-loop
-Inv-loop m₀ most sum₀ s₀ m sum s = (length m ≡ length m₀) × (s ≤ most)
+Inv-loop m₀ most sum₀ s₀ m sum s = s ≤ most
 
 abbrev μ-loop : tie.MeasureT-loop
 μ-loop m₀ most sum₀ s₀ m sum s = most - s
@@ -24,9 +22,6 @@ plus-requires c κs = search needs
 next-state-requires : tie.Need-next-state-requires Inv-loop μ-loop
 next-state-requires c κs = search needs
 
-same-length : tie.Need-same-length Inv-loop μ-loop
-same-length c = search needs
-
 returns : tie.Need-returns Inv-loop μ-loop
 returns c = search needs
 
@@ -38,9 +33,6 @@ loop-less c = search needs
 
 loop-again : tie.Need-loop-again Inv-loop μ-loop
 loop-again c = search needs
-
-same-length-2 : tie.Need-same-length-2 Inv-loop μ-loop
-same-length-2 c = search needs
 
 returns-2 : tie.Need-returns-2 Inv-loop μ-loop
 returns-2 c = search needs
@@ -55,10 +47,8 @@ sum-states-spec =
     state-weight-requires
     plus-requires
     next-state-requires
-    same-length
     returns
     add-s
     loop-less
     loop-again
-    same-length-2
     returns-2)

@@ -1,13 +1,11 @@
--- The terms counted stay at most 65536; the slice keeps its length.
+-- The terms counted stay at most 65536.
 use Prim.Native.Nat.{_-_, _≤_}
-use mathlib.Core.Path.{_≡_}
-use lib.ListN.{length}
 use borrow.Author.Needs.{needs}
 use Rattle.states.proofs.table.add_terms.Statement.{statement}
 use Rattle.states.proofs.table.add_terms.Tie as tie
 
 abbrev Inv-loop : tie.InvT-loop
-Inv-loop m₀ entries size j₀ m j = (length m ≡ length m₀) × (j ≤ 65536)
+Inv-loop m₀ entries size j₀ m j = j ≤ 65536
 
 abbrev μ-loop : tie.MeasureT-loop
 μ-loop m₀ entries size j₀ m j = 65536 - j
@@ -17,9 +15,6 @@ returns c = search needs
 
 loop-holds : tie.Need-loop-holds Inv-loop μ-loop
 loop-holds c = search needs
-
-same-length : tie.Need-same-length Inv-loop μ-loop
-same-length c = search needs
 
 returns-2 : tie.Need-returns-2 Inv-loop μ-loop
 returns-2 c = search needs
@@ -42,9 +37,6 @@ loop-less c = search needs
 loop-again : tie.Need-loop-again Inv-loop μ-loop
 loop-again c = search needs
 
-same-length-2 : tie.Need-same-length-2 Inv-loop μ-loop
-same-length-2 c = search needs
-
 returns-3 : tie.Need-returns-3 Inv-loop μ-loop
 returns-3 c = search needs
 
@@ -56,7 +48,6 @@ add-terms-spec =
     μ-loop
     returns
     loop-holds
-    same-length
     returns-2
     div-add-term
     rem-add-term
@@ -64,5 +55,4 @@ add-terms-spec =
     add-j
     loop-less
     loop-again
-    same-length-2
     returns-3)

@@ -1,13 +1,11 @@
--- The chains counted stay at most 8; the slice keeps its length.
+-- The chains counted stay at most 8.
 use Prim.Native.Nat.{_-_, _≤_}
-use mathlib.Core.Path.{_≡_}
-use lib.ListN.{length}
 use borrow.Author.Needs.{needs}
 use Rattle.states.proofs.table.set_steps.Statement.{statement}
 use Rattle.states.proofs.table.set_steps.Tie as tie
 
 abbrev Inv-loop : tie.InvT-loop
-Inv-loop m₀ size₀ k₀ m size k = (length m ≡ length m₀) × (k ≤ 8)
+Inv-loop m₀ size₀ k₀ m size k = k ≤ 8
 
 abbrev μ-loop : tie.MeasureT-loop
 μ-loop m₀ size₀ k₀ m size k = 8 - k
@@ -39,9 +37,6 @@ loop-again c = search needs
 put-requires-2 : tie.Need-put-requires-2 Inv-loop μ-loop
 put-requires-2 c κs = search needs
 
-same-length : tie.Need-same-length Inv-loop μ-loop
-same-length c = search needs
-
 returns : tie.Need-returns Inv-loop μ-loop
 returns c = search needs
 
@@ -60,5 +55,4 @@ set-steps-spec =
     loop-less
     loop-again
     put-requires-2
-    same-length
     returns)

@@ -1,13 +1,11 @@
--- The chains counted stay at most 9; the slice keeps its length.
+-- The chains counted stay at most 9.
 use Prim.Native.Nat.{_-_, _≤_}
-use mathlib.Core.Path.{_≡_}
-use lib.ListN.{length}
 use borrow.Author.Needs.{needs}
 use Rattle.states.proofs.values.find_all.Statement.{statement}
 use Rattle.states.proofs.values.find_all.Tie as tie
 
 abbrev Inv-loop : tie.InvT-loop
-Inv-loop m₀ lower₀ m lower = (length m ≡ length m₀) × (lower ≤ 9)
+Inv-loop m₀ lower₀ m lower = lower ≤ 9
 
 abbrev μ-loop : tie.MeasureT-loop
 μ-loop m₀ lower₀ m lower = 9 - lower
@@ -27,9 +25,6 @@ loop-less c = search needs
 loop-again : tie.Need-loop-again Inv-loop μ-loop
 loop-again c = search needs
 
-same-length : tie.Need-same-length Inv-loop μ-loop
-same-length c = search needs
-
 returns : tie.Need-returns Inv-loop μ-loop
 returns c = search needs
 
@@ -44,5 +39,4 @@ find-all-spec =
     add-lower
     loop-less
     loop-again
-    same-length
     returns)
