@@ -14,7 +14,7 @@ use modelfile::Model;
 use modelfile::Reading;
 use modelfile::Verdict;
 
-mod model; // model.rt: the model with one record more, and tests of it
+mod model; // model.rt: where a record notes something, and tests of the model
 pub mod numbers; // numbers.rt: centre and chain numbers with their ends
 pub mod records; // records.rt: one record
 
