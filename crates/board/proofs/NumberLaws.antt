@@ -7,7 +7,8 @@ use lib.ListN.{length}
 use Rattle.modelfile.specs.File.{readFile, treePart}
 use Rattle.modelfile.specs.declared.Verdict.{Verdict}
 use Rattle.modelfile.proofs.PartLaws.{first-inside, part-length, part-refused}
-use Rattle.board.specs.Numbers.{partIn, partAnswer}
+use Rattle.calls.specs.Answers.{partNumbers}
+use Rattle.calls.specs.Promises.{BoardPartAllows}
 
 -- what is told of an answer that is known
 pub told : {A B : Type 0} (f : A → B) {x r y : A} → r ≡ x → r ≡ y → f y ≡ f x
@@ -23,11 +24,11 @@ module _ (file part : List ℕ) (e : part ≡ treePart file) where
   refused-none : (number place : ℕ) → readFile file .verdict ≡ Verdict.Refused number place → length part ≡ 0
   refused-none number place v = ap length (e ∙ part-refused file number place v)
 
-  pub part-none : length part ≡ 0 → record { from = 0; length = 0 } ≡ partAnswer file
-  unfolding partAnswer partIn
+  pub part-none : length part ≡ 0 → BoardPartAllows file (record { from = 0; length = 0 })
+  unfolding partNumbers
   part-none z = by (readFile file .verdict) refl
     where
-      by : (v : Verdict) → readFile file .verdict ≡ v → record { from = 0; length = 0 } ≡ partIn v (readFile file .model .first) (length (treePart file))
+      by : (v : Verdict) → readFile file .verdict ≡ v → record { from = 0; length = 0 } ≡ partNumbers v (readFile file .model .first) (length (treePart file))
       by Verdict.Accepted d = absurd (omega (arith, z, accepted-some d .1))
       by (Verdict.Refused number place) d = refl
 
@@ -42,8 +43,8 @@ module _ (file part : List ℕ) (e : part ≡ treePart file) where
     pub part-inside : length part + 1 ≤ length file
     part-inside = omega (arith, accepted-some accepted .0)
 
-    pub part-some : record { from = length file - 1 - length part; length = length part } ≡ partAnswer file
-    unfolding partAnswer partIn
+    pub part-some : BoardPartAllows file (record { from = length file - 1 - length part; length = length part })
+    unfolding partNumbers
     part-some =
         let f : length file - 1 - length part ≡ readFile file .model .first = omega (arith, accepted-some accepted .0) in
         rw accepted (λ i. record { from = f i; length = length (e i) })

@@ -1,160 +1,141 @@
--- Demand 3. Idle slots: after an accepted start and any budgets, zeros too, that add up to b, the area, the number done and the value are those of
--- the first b pairs of the listed order (all, if there are fewer); only a pair that would reach 2^64 stops it earlier. The number of pairs is the product formula,
--- is the length of the listed order, does not depend on any load, and is never above that of the plain method; neither reaches 2^63. The
--- statements are the records and the types below.
-use Prim.Native.Nat.{ℕ, zero, suc, _+_, _-_, _*_, _^_, _≤_, _<_, min}
+-- Demand 3. Idle slots. "Take one model whose start is accepted, then spend any budgets, zeros too, with model, area, lowered channel and number done handed
+-- back untouched. After budgets that add up to b, the area holds exactly what the first b index pairs of the listed order leave (all of them, if there are
+-- fewer); only a pair that would reach 2^64 stops it earlier. The whole number of pairs is known from routes, windows and tree before any load is looked at,
+-- and it is never above that of the plain sequential method." The statement is the record Demand3 and the type of demand-3.
+use Prim.Native.Nat.{ℕ, zero, suc, _+_, _*_, _^_, _≤_, _<_}
 use mathlib.Core.Path.{_≡_, refl, sym, ap, subst, _∙_}
-use mathlib.Core.Bool.{Bool, true, false}
-use mathlib.Core.List.{List, [], _∷_, map, map-map, List·Memᴰ}
+use mathlib.Core.Bool.{Bool, true, false, _&&_}
+use mathlib.Core.List.{List, []}
 use native.Mathlib.Omega.{arith}
-use native.Mathlib.Nat.{zero-add, lt-of-le-of-lt}
-use lib.Dec.{ltb, eqb}
-use lib.ListN.{length, getD, take, drop, length-take, length-map}
-use lib.Seq.{take-take, getD-take, ext-getD}
+use native.Mathlib.Nat.{lt-of-le-of-lt}
+use lib.Dec.{ltb}
+use lib.ListN.{length, getD}
 use Rattle.sums.specs.Choice.{choose}
-use Rattle.sums.specs.Lists.{from}
-use Rattle.sums.proofs.ListLaws.{map-cong, getD-map-in, from-out, low-member}
-use Rattle.network.specs.Centre.{routesOf, visit, queue}
+use Rattle.sums.specs.Lists.{some}
+use Rattle.sums.proofs.ListLaws.{low-member}
+use Rattle.network.specs.Centre.{routesOf, visit}
 use Rattle.network.specs.Cells.{allCells}
-use Rattle.network.specs.Pairs.{allPairs, plainPairs}
-use Rattle.network.specs.Run.{sumAt, Progress, spend}
-use Rattle.network.proofs.RunLaws.{run as pairsRun}
-use Rattle.network.proofs.SpendLaws.{nothing, went}
+use Rattle.network.specs.Pairs.{listed, allPairs, plainPairs}
+use Rattle.network.specs.Run.{Progress}
 use Rattle.network.proofs.CountLaws.{pairs-plain, plain-below}
 use Rattle.modelfile.specs.File.{readFile}
-use Rattle.modelfile.specs.Network.{windowsOf, loadsOf, centresOf, subtrees, latest, treeOf}
+use Rattle.modelfile.specs.Network.{centresOf, treeOf}
 use Rattle.modelfile.specs.declared.Model.{Model}
 use Rattle.modelfile.specs.declared.Verdict.{Verdict}
-use Rattle.modelfile.proofs.Guaranteed.{Guaranteed}
-use Rattle.modelfile.proofs.AcceptedLaws.{accepted}
-use Rattle.calls.specs.Asked.{Asked, refused, granted, pickAsked, lessOne, lowering, onVerdict, ask, onGranted, cellsIn, pairsIn, pairsListed}
-use Rattle.calls.specs.Plan.{plan}
-use Rattle.calls.specs.Start.{noRoom, start}
-use Rattle.calls.specs.Advance.{noAdvance, told}
-use Rattle.calls.specs.Slots.{run}
+use Rattle.calls.specs.Answers.{Left}
+use Rattle.calls.specs.Asked.{ask, granted, onGranted, modelOf, windowsFor, cellsIn, pairsIn, filledBy}
+use Rattle.calls.specs.Plan.{plan, SameButLoads}
+use Rattle.calls.specs.Start.{noRoom, tooLarge, noStart, start}
+use Rattle.calls.specs.Advance.{noAdvance}
+use Rattle.calls.specs.Slots.{sum, lastOf, run}
+use Rattle.calls.specs.Spending.{Spending, GoesOn}
 use Rattle.calls.specs.declared.PlanAnswer.{PlanAnswer}
 use Rattle.calls.specs.declared.StartAnswer.{StartAnswer}
-use Rattle.calls.proofs.FileLaws.{Fit, granted-fit, length-routes, length-loads, load-at}
-use Rattle.calls.proofs.SlotLaws.{sum, listed-pairs}
-use Rattle.calls.proofs.ExactLaws.{startedArea, started-low, run-is}
+use Rattle.calls.specs.declared.AdvanceAnswer.{AdvanceAnswer}
+use Rattle.calls.proofs.FileLaws.{granted-fit, granted-from, length-routes}
+use Rattle.calls.proofs.GrantedLaws.{Begun, begun}
+use Rattle.calls.proofs.SlotLaws.{listed-pairs, spent, toldLast}
+use Rattle.calls.proofs.SpendingLaws.{told-area, told-stopped, spending, goes-on-in}
+use Rattle.calls.proofs.ExactLaws.{startedArea, started-room, start-is, run-is}
+use Rattle.calls.proofs.LoadLaws.{loads-free}
 
--- ---- the slots
+-- ---- the statement
 
--- the whole answer and the whole area are those of one spending of the first pairs, whatever the budgets were
-pub demand-3 : (file : List ℕ) (lower : ℕ) (m : Model) (windows area : List ℕ) → ask file lower ≡ granted m windows → noRoom (cellsIn m windows) area ≡ false → start file lower area .answer ≡ StartAnswer.Started → (b : ℕ) (bs : List ℕ)
-    → run file lower b bs area ≡ told m windows (spend (2 ^ 64) (take (b + sum bs) (pairsListed m windows)) 0 (startedArea m windows area))
-demand-3 file lower m windows area asked room started b bs =
-    run-is file lower m windows asked area room b bs
-    ∙ ap (λ t. choose t (λ u. noAdvance 14 0 area) (λ u. told m windows (spend (2 ^ 64) (take (b + sum bs) (pairsListed m windows)) 0 (startedArea m windows area)))) (started-low file lower m windows asked area room started)
+-- "The whole number of pairs is known from routes, windows and tree before any load is looked at, and it is never above that of the plain sequential method"
+pub record PairsKnown (file : List ℕ) (lower : ℕ) : Type 0 where
+  -- plan tells the product formula, summed over the joins; its arguments are routes, windows and tree
+  pub planned : (let m = modelOf file in let routes = routesOf (centresOf m) in let windows = windowsFor file lower in
+      plan file lower ≡ PlanAnswer.Planned (allCells routes windows (treeOf m)) (allPairs routes windows (treeOf m)))
+  -- it is the length of the listed order
+  pub listed-so : length (listed (routesOf (centresOf (modelOf file))) (windowsFor file lower) (treeOf (modelOf file)) 0) ≡ pairsIn (modelOf file) (windowsFor file lower)
+  pub plain : pairsIn (modelOf file) (windowsFor file lower) ≤ plainPairs (modelOf file .centres) (windowsFor file lower)
+  -- "Neither reaches 2^63."
+  pub low : pairsIn (modelOf file) (windowsFor file lower) < 2 ^ 63
+  pub plain-low : plainPairs (modelOf file .centres) (windowsFor file lower) < 2 ^ 63
+  -- another file that differs in loads only has the same plan
+  pub loads-free : (other : List ℕ) → readFile other .verdict ≡ Verdict.Accepted → SameButLoads (modelOf file) (modelOf other) → plan file lower ≡ plan other lower
 
--- what that spending is, pair by pair, from an area A
-pub record First (m : Model) (windows A : List ℕ) (b : ℕ) (p : Progress) : Type 0 where
-  pub steps : ℕ
-  pub number : p .done ≡ steps
-  -- the area is what so many pairs of the listed order leave, one after the other
-  pub left : p .area ≡ pairsRun (take steps (pairsListed m windows)) A
-  -- all of the first b, or all there are
-  pub all : p .stopped ≡ false → steps ≡ min b (pairsIn m windows)
-  -- fewer only if the next pair would reach 2^64
-  pub fewer : p .stopped ≡ true → (steps < min b (pairsIn m windows)) × (2 ^ 64 ≤ sumAt (p .area) (getD (pairsListed m windows) steps nothing))
+pub record Demand3 (file : List ℕ) (lower : ℕ) (area : List ℕ) : Type 0 where
+  -- after budgets b and then bs, zeros too: the first b + sum bs pairs from the start's area, or all; the number done; the value; only a pair that would
+  -- reach 2^64 stops it (specs/Spending)
+  pub slots : (b : ℕ) (bs : List ℕ) → Spending (modelOf file) (windowsFor file lower) 0 (b + sum bs) (lastOf b bs) (start file lower area .area) (run file lower b bs area)
+  -- how the budgets are cut up makes no difference
+  pub cut-up : (b : ℕ) (bs : List ℕ) (c : ℕ) (cs : List ℕ) → b + sum bs ≡ c + sum cs → run file lower b bs area .area ≡ run file lower c cs area .area
+  -- a board may go on after 14 (specs/Spending)
+  pub goes-on : (b : ℕ) (bs : List ℕ) (done : ℕ) → run file lower b bs area .answer ≡ AdvanceAnswer.Stopped done → GoesOn file lower done (run file lower b bs area .area)
+  pub pairs : PairsKnown file lower
 
-pub first-pairs : (m : Model) (windows A : List ℕ) → Fit m windows → (b : ℕ) → First m windows A b (spend (2 ^ 64) (take b (pairsListed m windows)) 0 A)
-first-pairs m windows A f b =
-    let w = went (2 ^ 64) (take b (pairsListed m windows)) 0 A in
-    let n : length (take b (pairsListed m windows)) ≡ min b (pairsIn m windows) = length-take b (pairsListed m windows) ∙ ap (min b) (listed-pairs m windows f) in
-    let few : w .steps ≤ b = omega (arith, w .few, length-take b (pairsListed m windows)) in
-    record {
-      steps = w .steps;
-      number = w .number ∙ zero-add (w .steps);
-      left = w .left ∙ ap (λ ps. pairsRun ps A) (take-take (w .steps) b (pairsListed m windows) few);
-      all = λ e. w .onward e ∙ n;
-      fewer = λ e. let r = w .reached e in (omega (arith, r .0, n), subst (λ p. 2 ^ 64 ≤ sumAt (spend (2 ^ 64) (take b (pairsListed m windows)) 0 A .area) p) (getD-take b (pairsListed m windows) (w .steps) nothing (omega (arith, r .0, length-take b (pairsListed m windows)))) (r .1));
-    }
+-- ---- the proof
 
--- ---- the number of pairs
-
-pub record Counted (m : Model) (windows : List ℕ) : Type 0 where
-  -- the product formula, summed over the joins, is the length of the listed order
-  pub listed : length (pairsListed m windows) ≡ pairsIn m windows
-  -- never above the plain sequential method
-  pub plain : pairsIn m windows ≤ plainPairs (m .centres) windows
-  -- neither reaches 2^63
-  pub plain-low : plainPairs (m .centres) windows < 2 ^ 63
-  pub low : pairsIn m windows < 2 ^ 63
-
-pub counted : (file : List ℕ) (lower : ℕ) (m : Model) (windows : List ℕ) → ask file lower ≡ granted m windows → Counted m windows
-counted file lower m windows asked =
+pub pairs-known : (file : List ℕ) (lower : ℕ) → ask file lower ≡ granted (modelOf file) (windowsFor file lower) → PairsKnown file lower
+unfolding plan
+pairs-known file lower asked =
+    let m = modelOf file in
+    let windows = windowsFor file lower in
     let g = granted-fit file lower m windows asked .0 in
     let f = granted-fit file lower m windows asked .1 in
     let p : pairsIn m windows ≤ plainPairs (m .centres) windows = subst (λ n. pairsIn m windows ≤ plainPairs n windows) (length-routes m g) (pairs-plain (routesOf (centresOf m)) windows (treeOf m) (f .every)) in
     let l : plainPairs (m .centres) windows < 2 ^ 63 = plain-below (m .centres) windows (g .centres-range .1) (f .windows-few) (λ n k. low-member windows 15 (f .windows-low) n k) in
-    record { listed = listed-pairs m windows f; plain = p; plain-low = l; low = lt-of-le-of-lt p l }
+    record {
+      planned = ap (λ a. onGranted a (λ number place. PlanAnswer.Refused number place) (λ m windows. PlanAnswer.Planned (cellsIn m windows) (pairsIn m windows))) asked;
+      listed-so = listed-pairs m windows f;
+      plain = p;
+      low = lt-of-le-of-lt p l;
+      plain-low = l;
+      loads-free = λ other v s. loads-free file other (granted-from file lower m windows asked .0) v s lower;
+    }
 
--- ---- no load is looked at
+module _ (file : List ℕ) (lower : ℕ) (area : List ℕ) (started : start file lower area .answer ≡ StartAnswer.Started) where
+  b₀ : Begun file lower area
+  b₀ = begun file lower area started
 
--- two models that differ in loads only: where one has a load the other has one
-pub record SameButLoads (m n : Model) : Type 0 where
-  pub centres : m .centres ≡ n .centres
-  pub chains : m .chains ≡ n .chains
-  pub windows : m .windows ≡ n .windows
-  pub count : m .count ≡ n .count
-  pub nodes : m .nodes ≡ n .nodes
-  pub loads : (i : ℕ) → visit (getD (m .loads) i 0) ≡ visit (getD (n .loads) i 0)
+  abbrev M : Model
+  M = modelOf file
 
-abbrev planned : Asked → PlanAnswer
-planned a = onGranted a (λ number place. PlanAnswer.Refused number place) (λ m windows. PlanAnswer.Planned (cellsIn m windows) (pairsIn m windows))
+  abbrev W : List ℕ
+  W = windowsFor file lower
 
-module _ (m n : Model) (gm : Guaranteed m) (gn : Guaranteed n) (s : SameButLoads m n) where
-  same-windows : windowsOf m ≡ windowsOf n
-  unfolding windowsOf
-  same-windows = λ i. take (s .chains i) (s .windows i)
+  -- the start's area, and what a run answers and leaves from there
+  start-area : start file lower area .area ≡ startedArea M W area
+  start-area =
+      ap (λ s. s .area) (start-is file lower M W (b₀ .asked) area (b₀ .room))
+      ∙ ap (λ t. (choose {A = Left StartAnswer} t (λ u. noStart 14 0 area) (λ u. record { answer = StartAnswer.Started; area = startedArea M W area })) .area) (b₀ .low)
 
-  same-tree : treeOf m ≡ treeOf n
-  unfolding treeOf
-  same-tree = λ i. latest (subtrees [] (take (s .count i) (s .nodes i)))
+  run-told : (b : ℕ) (bs : List ℕ) → run file lower b bs area ≡ toldLast M W (lastOf b bs) (spent M W 0 (b + sum bs) (startedArea M W area))
+  run-told b bs =
+      run-is file lower M W (b₀ .asked) area (b₀ .room) b bs
+      ∙ ap (λ t. choose t (λ u. noAdvance 14 0 area) (λ u. toldLast M W (lastOf b bs) (spent M W 0 (b + sum bs) (startedArea M W area)))) (b₀ .low)
 
-  -- a centre's marks, by its loads
-  marks : (c : ℕ) → c < m .centres → map visit (loadsOf m (suc c)) ≡ map visit (loadsOf n (suc c))
-  marks c h =
-      let lm = length-loads m gm c h in
-      let ln = length-loads n gn c (omega (arith, s .centres)) in
-      ext-getD false (map visit (loadsOf m (suc c))) (map visit (loadsOf n (suc c)))
-      (length-map (loadsOf m (suc c)) visit ∙ lm ∙ s .chains ∙ sym ln ∙ sym (length-map (loadsOf n (suc c)) visit))
-      (λ k l. let b : k < m .chains = omega (arith, length-map (loadsOf m (suc c)) visit) in
-      getD-map-in visit (loadsOf m (suc c)) k false 0 (omega arith) ∙ ap visit (load-at m gm c k h b)
-      ∙ s .loads (c * 8 + k)
-      ∙ sym (getD-map-in visit (loadsOf n (suc c)) k false 0 (omega (arith, s .chains)) ∙ ap visit (load-at n gn c k (omega (arith, s .centres)) (omega (arith, s .chains)))))
+  last-told : ℕ → Progress → Progress
+  last-told last p = record { done = p .done; area = p .area; stopped = p .stopped && ltb 0 last }
 
-  same-routes : routesOf (centresOf m) ≡ routesOf (centresOf n)
-  unfolding centresOf
-  same-routes =
-      map-map (λ c. c .route) (λ c. queue (loadsOf m c)) (from 1 (m .centres))
-      ∙ map-cong (from 1 (m .centres)) _ _ (λ c k. by c (from-out 1 (m .centres) c k))
-      ∙ ap (λ k. map (λ c. map visit (loadsOf n c)) (from 1 k)) (s .centres)
-      ∙ sym (map-map (λ c. c .route) (λ c. queue (loadsOf n c)) (from 1 (n .centres)))
-    where
-      by : (c : ℕ) → (1 ≤ c) × (c < 1 + m .centres) → map visit (loadsOf m c) ≡ map visit (loadsOf n c)
-      by zero r = absurd (omega arith)
-      by (suc c) r = marks c (omega arith)
+  run-area : (b : ℕ) (bs : List ℕ) → run file lower b bs area .area ≡ spent M W 0 (b + sum bs) (startedArea M W area) .area
+  unfolding last-told
+  run-area b bs = ap (λ r. r .area) (run-told b bs) ∙ told-area M W (last-told (lastOf b bs) (spent M W 0 (b + sum bs) (startedArea M W area)))
 
-  -- the answer for any windows, and then for what lowering makes of them
-  answer : (windows : List ℕ) → PlanAnswer.Planned (cellsIn m windows) (pairsIn m windows) ≡ PlanAnswer.Planned (cellsIn n windows) (pairsIn n windows)
-  answer windows = λ i. PlanAnswer.Planned (allCells (same-routes i) windows (same-tree i)) (allPairs (same-routes i) windows (same-tree i))
+  and-left : (s t : Bool) → (s && t) ≡ true → s ≡ true
+  and-left true t e = refl
+  and-left false t e = e
 
-  same-plan : (lower : ℕ) → planned (lowering m lower) ≡ planned (lowering n lower)
-  unfolding lowering
-  same-plan zero = answer (windowsOf m) ∙ ap (λ w. PlanAnswer.Planned (cellsIn n w) (pairsIn n w)) same-windows
-  same-plan (suc k) = by (ltb (m .chains) (suc k)) (eqb (getD (windowsOf m) k 0) 0) ∙ (λ i. planned (pickAsked (ltb (s .chains i) (suc k)) (refused 10 0) (pickAsked (eqb (getD (same-windows i) k 0) 0) (refused 11 0) (granted n (lessOne (same-windows i) k)))))
-    where
-      by : (a z : Bool) → planned (pickAsked a (refused 10 0) (pickAsked z (refused 11 0) (granted m (lessOne (windowsOf m) k)))) ≡ planned (pickAsked a (refused 10 0) (pickAsked z (refused 11 0) (granted n (lessOne (windowsOf m) k))))
-      by true z = refl
-      by false true = refl
-      by false false = answer (lessOne (windowsOf m) k)
+  goes-on-so : (b : ℕ) (bs : List ℕ) (done : ℕ) → run file lower b bs area .answer ≡ AdvanceAnswer.Stopped done → GoesOn file lower done (run file lower b bs area .area)
+  unfolding last-told
+  goes-on-so b bs done e =
+      let p = spent M W 0 (b + sum bs) (startedArea M W area) in
+      let t = told-stopped M W (last-told (lastOf b bs) p) done (sym (ap (λ r. r .answer) (run-told b bs)) ∙ e) in
+      subst (λ B. GoesOn file lower done B) (sym (run-area b bs))
+      (subst (λ d. GoesOn file lower d (p .area)) (t .1)
+      (goes-on-in file lower M W (b₀ .asked) 0 (startedArea M W area) (started-room file lower M W (b₀ .asked) area (b₀ .room)) (omega arith) (b + sum bs) (and-left (p .stopped) (ltb 0 (lastOf b bs)) (t .0))))
 
--- plan answers the same for both, whatever chain is lowered
-pub loads-free : (f g : List ℕ) → readFile f .verdict ≡ Verdict.Accepted → readFile g .verdict ≡ Verdict.Accepted → SameButLoads (readFile f .model) (readFile g .model) → (lower : ℕ) → plan f lower ≡ plan g lower
-unfolding plan ask
-loads-free f g p q s lower =
-    (λ i. planned (onVerdict (p i) (lowering (readFile f .model) lower)))
-    ∙ same-plan (readFile f .model) (readFile g .model) (accepted f p) (accepted g q) s lower
-    ∙ sym (λ i. planned (onVerdict (q i) (lowering (readFile g .model) lower)))
+  idle-slots : Demand3 file lower area
+  idle-slots = record {
+    slots = λ b bs.
+        subst (λ A. Spending M W 0 (b + sum bs) (lastOf b bs) A (run file lower b bs area)) (sym start-area)
+        (subst (Spending M W 0 (b + sum bs) (lastOf b bs) (startedArea M W area)) (sym (run-told b bs))
+        (spending M W (granted-fit file lower M W (b₀ .asked) .1) 0 (b + sum bs) (startedArea M W area) (lastOf b bs)));
+    cut-up = λ b bs c cs e. run-area b bs ∙ ap (λ n. spent M W 0 n (startedArea M W area) .area) e ∙ sym (run-area c cs);
+    goes-on = goes-on-so;
+    pairs = pairs-known file lower (b₀ .asked);
+  }
+
+pub demand-3 : (file : List ℕ) (lower : ℕ) (area : List ℕ) → start file lower area .answer ≡ StartAnswer.Started → Demand3 file lower area
+demand-3 = idle-slots

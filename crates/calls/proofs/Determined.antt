@@ -1,48 +1,54 @@
--- For each public call, any two results that its contract allows coincide: every field of the answer and every cell of the area. The contracts are
--- equations with the calls' definitions, so this is one step for each.
+-- For each public call, any two results that its promise allows coincide: every field of the answer and every cell of the area. The promises
+-- (specs/Promises) are what the contracts in the source cite, and are equations with the calls' definitions, so this is one step for each.
 use Prim.Native.Nat.{ℕ}
 use mathlib.Core.Path.{_≡_, sym, _∙_}
 use mathlib.Core.List.{List}
-use Rattle.modelfile.specs.File.{treePart}
-use Rattle.calls.specs.Plan.{plan}
-use Rattle.calls.specs.Start.{start}
-use Rattle.calls.specs.Advance.{advance}
-use Rattle.calls.specs.Sheet.{sheet}
+use Rattle.calls.specs.Promises.{PlanAllows, StartAllows, AdvanceAllows, SheetAllows, PartAllows, BoardPlanAllows, BoardStartAllows, BoardAdvanceAllows, BoardPartAllows}
 use Rattle.calls.specs.declared.PlanAnswer.{PlanAnswer}
+use Rattle.calls.specs.declared.PlanNumbers.{PlanNumbers}
 use Rattle.calls.specs.declared.StartAnswer.{StartAnswer}
+use Rattle.calls.specs.declared.StartNumbers.{StartNumbers}
 use Rattle.calls.specs.declared.AdvanceAnswer.{AdvanceAnswer}
+use Rattle.calls.specs.declared.AdvanceNumbers.{AdvanceNumbers}
 use Rattle.calls.specs.declared.SheetAnswer.{SheetAnswer}
+use Rattle.calls.specs.declared.PartNumbers.{PartNumbers}
 
--- what each contract says of an answer r and an area A at exit
-abbrev pub PlanAllows : List ℕ → ℕ → PlanAnswer → Type 0
-PlanAllows file lower r = r ≡ plan file lower
+-- a promise of an answer alone, and one of an answer and an area
+abbrev Alone : {A : Type 0} → (A → Type 0) → Type 0
+Alone {A} Allows = (r s : A) → Allows r → Allows s → r ≡ s
 
-abbrev pub StartAllows : List ℕ → ℕ → List ℕ → StartAnswer → List ℕ → Type 0
-StartAllows file lower area r A = (r ≡ start file lower area .answer) × (A ≡ start file lower area .area)
-
-abbrev pub AdvanceAllows : List ℕ → ℕ → ℕ → ℕ → List ℕ → AdvanceAnswer → List ℕ → Type 0
-AdvanceAllows file lower done budget area r A = (r ≡ advance file lower done budget area .answer) × (A ≡ advance file lower done budget area .area)
-
-abbrev pub SheetAllows : List ℕ → List ℕ → SheetAnswer → List ℕ → Type 0
-SheetAllows file area r A = (r ≡ sheet file area .answer) × (A ≡ sheet file area .area)
-
-abbrev pub PartAllows : List ℕ → List ℕ → Type 0
-PartAllows file r = r ≡ treePart file
+abbrev Both : {A : Type 0} → (A → List ℕ → Type 0) → Type 0
+Both {A} Allows = (r s : A) (left other : List ℕ) → Allows r left → Allows s other → (r ≡ s) × (left ≡ other)
 
 one : {A : Type 0} {x y z : A} → x ≡ z → y ≡ z → x ≡ y
 one p q = p ∙ sym q
 
-pub plan-determined : (file : List ℕ) (lower : ℕ) (r s : PlanAnswer) → PlanAllows file lower r → PlanAllows file lower s → r ≡ s
+pub plan-determined : (file : List ℕ) (lower : ℕ) → Alone (PlanAllows file lower)
 plan-determined file lower r s p q = one p q
 
-pub start-determined : (file : List ℕ) (lower : ℕ) (area : List ℕ) (r s : StartAnswer) (A B : List ℕ) → StartAllows file lower area r A → StartAllows file lower area s B → (r ≡ s) × (A ≡ B)
-start-determined file lower area r s A B p q = (one (p .0) (q .0), one (p .1) (q .1))
+pub start-determined : (file : List ℕ) (lower : ℕ) (area : List ℕ) → Both (StartAllows file lower area)
+start-determined file lower area r s left other p q = (one (p .0) (q .0), one (p .1) (q .1))
 
-pub advance-determined : (file : List ℕ) (lower done budget : ℕ) (area : List ℕ) (r s : AdvanceAnswer) (A B : List ℕ) → AdvanceAllows file lower done budget area r A → AdvanceAllows file lower done budget area s B → (r ≡ s) × (A ≡ B)
-advance-determined file lower done budget area r s A B p q = (one (p .0) (q .0), one (p .1) (q .1))
+pub advance-determined : (file : List ℕ) (lower done budget : ℕ) (area : List ℕ) → Both (AdvanceAllows file lower done budget area)
+advance-determined file lower done budget area r s left other p q = (one (p .0) (q .0), one (p .1) (q .1))
 
-pub sheet-determined : (file area : List ℕ) (r s : SheetAnswer) (A B : List ℕ) → SheetAllows file area r A → SheetAllows file area s B → (r ≡ s) × (A ≡ B)
-sheet-determined file area r s A B p q = (one (p .0) (q .0), one (p .1) (q .1))
+pub sheet-determined : (file area : List ℕ) → Both (SheetAllows file area)
+sheet-determined file area r s left other p q = (one (p .0) (q .0), one (p .1) (q .1))
 
-pub part-determined : (file r s : List ℕ) → PartAllows file r → PartAllows file s → r ≡ s
+-- the bytes; where they lie is settled by board-part-determined
+pub part-determined : (file : List ℕ) → Alone (PartAllows file)
 part-determined file r s p q = one p q
+
+-- ---- the calls for boards; the sheet's answer is the same there
+
+pub board-plan-determined : (file : List ℕ) (lower : ℕ) → Alone (BoardPlanAllows file lower)
+board-plan-determined file lower r s p q = one p q
+
+pub board-start-determined : (file : List ℕ) (lower : ℕ) (area : List ℕ) → Both (BoardStartAllows file lower area)
+board-start-determined file lower area r s left other p q = (one (p .0) (q .0), one (p .1) (q .1))
+
+pub board-advance-determined : (file : List ℕ) (lower done budget : ℕ) (area : List ℕ) → Both (BoardAdvanceAllows file lower done budget area)
+board-advance-determined file lower done budget area r s left other p q = (one (p .0) (q .0), one (p .1) (q .1))
+
+pub board-part-determined : (file : List ℕ) → Alone (BoardPartAllows file)
+board-part-determined file r s p q = one p q

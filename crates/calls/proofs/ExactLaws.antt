@@ -20,9 +20,9 @@ use Rattle.network.specs.States.{value}
 use Rattle.network.specs.Coverage.{under}
 use Rattle.network.specs.Cells.{spread, startCell, filled, allCells}
 use Rattle.network.specs.Pairs.{Pair, listed}
-use Rattle.network.specs.Run.{sumAt, Progress, spend}
-use Rattle.network.proofs.RunLaws.{run, trace, length-trace, trace-at, trace-take}
-use Rattle.network.proofs.SpendLaws.{nothing, Went, went, lead-below}
+use Rattle.network.specs.Run.{sumAt, leave, noPair, Progress, spend}
+use Rattle.network.proofs.RunLaws.{trace, length-trace, trace-at, trace-take}
+use Rattle.network.proofs.SpendLaws.{Went, went, lead-below}
 use Rattle.network.proofs.AreaLaws.{Laid, length-spread, spread-laid, cells-some}
 use Rattle.network.proofs.WholeLaws.{all-under, start-le, cell-or-sum, whole-value, whole-le}
 use Rattle.modelfile.specs.Network.{centresOf, treeOf}
@@ -32,12 +32,12 @@ use Rattle.calls.specs.Asked.{Asked, refused, granted, ask, onGranted, c
 use Rattle.calls.specs.Start.{noRoom, tooLarge, noStart, startIn, start}
 use Rattle.calls.specs.Advance.{noAdvance, told, advanceIn, advance}
 use Rattle.calls.specs.Slots as slots
-use Rattle.calls.specs.Slots.{onStarted, advances}
+use Rattle.calls.specs.Slots.{onStarted, sum, lastOf, advances}
 use Rattle.calls.specs.declared.StartAnswer.{StartAnswer}
 use Rattle.calls.specs.declared.AdvanceAnswer.{AdvanceAnswer}
 use Rattle.calls.proofs.FileLaws.{Fit, granted-fit}
 use Rattle.calls.proofs.SlotLaws as slot-laws
-use Rattle.calls.proofs.SlotLaws.{sum, listed-pairs}
+use Rattle.calls.proofs.SlotLaws.{listed-pairs, spent, toldLast, room-same}
 
 -- the area after a start
 abbrev pub startedArea : Model → List ℕ → List ℕ → List ℕ
@@ -59,6 +59,10 @@ room-cells m windows area e = by (ltb 8192 (cellsIn m windows)) (ltb (length are
     by false true p q d = absurd (true≢false d)
     by false false p q d = (ltb-false 8192 (cellsIn m windows) p, ltb-false (length area) (cellsIn m windows) q)
 
+pub room-none : (cells : ℕ) (area : List ℕ) → cells ≤ 8192 → cells ≤ length area → noRoom cells area ≡ false
+unfolding noRoom
+room-none cells area h k = λ i. le-ltb 8192 cells h i || le-ltb (length area) cells k i
+
 -- ---- what a run answers and leaves
 
 module _ (file : List ℕ) (lower : ℕ) (m : Model) (windows : List ℕ) (asked : ask file lower ≡ granted m windows) (area : List ℕ) (room : noRoom (cellsIn m windows) area ≡ false) where
@@ -76,23 +80,20 @@ module _ (file : List ℕ) (lower : ℕ) (m : Model) (windows : List ℕ) (asked
       by false p d = p
       by true p d = let z : _≡_ {A = ℕ} 0 1 = cc in absurd (omega arith)
 
-  advance-is : (n : ℕ) → advance file lower 0 n (startedArea m windows area) ≡ told m windows (spend (2 ^ 64) (take n (pairsListed m windows)) 0 (startedArea m windows area))
-  unfolding advance advanceIn noRoom
-  advance-is n =
-      let r : noRoom (cellsIn m windows) (startedArea m windows area) ≡ false = ap (λ k. ltb 8192 (cellsIn m windows) || ltb k (cellsIn m windows)) (length-started m windows area (room-cells m windows area room .1)) ∙ room in
-      let h : ltb (pairsIn m windows) 0 ≡ false = le-ltb (pairsIn m windows) 0 (omega arith) in
-      ap (λ a. onGranted a (λ number place. noAdvance number place (startedArea m windows area)) (λ m′ windows′. advanceIn m′ windows′ 0 n (startedArea m windows area))) asked
-      ∙ (λ i. choose (r i) (λ u. noAdvance 12 0 (startedArea m windows area)) (λ u. choose (h i) (λ u. noAdvance 13 0 (startedArea m windows area)) (λ u. told m windows (spend (2 ^ 64) (take n (pairsListed m windows)) 0 (startedArea m windows area)))))
+  -- the start's area is a room too
+  pub started-room : noRoom (cellsIn m windows) (startedArea m windows area) ≡ false
+  started-room = room-same (cellsIn m windows) area (startedArea m windows area) (length-started m windows area (room-cells m windows area room .1)) room
 
   -- 14 at the start, or what the first pairs leave
-  pub run-is : (b : ℕ) (bs : List ℕ) → slots.run file lower b bs area ≡ choose (some tooLarge (filledBy m windows)) (λ u. noAdvance 14 0 area) (λ u. told m windows (spend (2 ^ 64) (take (b + sum bs) (pairsListed m windows)) 0 (startedArea m windows area)))
+  pub run-is : (b : ℕ) (bs : List ℕ) → slots.run file lower b bs area
+      ≡ choose (some tooLarge (filledBy m windows)) (λ u. noAdvance 14 0 area) (λ u. toldLast m windows (lastOf b bs) (spent m windows 0 (b + sum bs) (startedArea m windows area)))
   unfolding slots.run
   run-is b bs = ap (λ s. onStarted (s .answer) (s .area) (advances file lower 0 b bs (s .area))) start-is ∙ by (some tooLarge (filledBy m windows))
     where
       by : (t : Bool) → (let s = choose t (λ u. noStart 14 0 area) (λ u. record { answer = StartAnswer.Started; area = startedArea m windows area }) in onStarted (s .answer) (s .area) (advances file lower 0 b bs (s .area)))
-          ≡ choose t (λ u. noAdvance 14 0 area) (λ u. told m windows (spend (2 ^ 64) (take (b + sum bs) (pairsListed m windows)) 0 (startedArea m windows area)))
+          ≡ choose t (λ u. noAdvance 14 0 area) (λ u. toldLast m windows (lastOf b bs) (spent m windows 0 (b + sum bs) (startedArea m windows area)))
       by true = refl
-      by false = slot-laws.slots file lower 0 b bs (startedArea m windows area) ∙ advance-is (b + sum bs)
+      by false = slot-laws.slots file lower m windows asked bs b 0 (startedArea m windows area) started-room (omega arith)
 
 -- ---- what the sums mean
 
@@ -121,20 +122,17 @@ module _ (m : Model) (windows : List ℕ) (f : Fit m windows) (area : List ℕ) 
   leaf-high e = let r = some-is tooLarge (filledBy m windows) e in le-trans (leb-true (2 ^ 64) (r .0) (r .2)) (filled-le (r .0) (r .1))
 
   module _ (n : ℕ) where
-    spent : Progress
-    spent = spend (2 ^ 64) (take n (pairsListed m windows)) 0 (startedArea m windows area)
-
     w : Went (2 ^ 64) (take n (pairsListed m windows)) 0 (startedArea m windows area)
     w = went (2 ^ 64) (take n (pairsListed m windows)) 0 (startedArea m windows area)
 
-    pub stop-high : spend (2 ^ 64) (take n (pairsListed m windows)) 0 (startedArea m windows area) .stopped ≡ true → 2 ^ 64 ≤ exact
+    pub stop-high : spent m windows 0 n (startedArea m windows area) .stopped ≡ true → 2 ^ 64 ≤ exact
     stop-high e =
         let r = w .reached e in
-        let k : 2 ^ 64 ≤ sumAt (run (take (w .steps) (take n (pairsListed m windows))) (startedArea m windows area)) (getD (take n (pairsListed m windows)) (w .steps) nothing) = subst (λ B. 2 ^ 64 ≤ sumAt B (getD (take n (pairsListed m windows)) (w .steps) nothing)) (w .left) (r .1) in
-        le-trans k (sums-le _ (trace-take n (pairsListed m windows) (startedArea m windows area) _ (trace-at (take n (pairsListed m windows)) (startedArea m windows area) (w .steps) nothing (r .0))))
+        let k : 2 ^ 64 ≤ sumAt (leave (take (w .steps) (take n (pairsListed m windows))) (startedArea m windows area)) (getD (take n (pairsListed m windows)) (w .steps) noPair) = subst (λ B. 2 ^ 64 ≤ sumAt B (getD (take n (pairsListed m windows)) (w .steps) noPair)) (w .left) (r .1) in
+        le-trans k (sums-le _ (trace-take n (pairsListed m windows) (startedArea m windows area) _ (trace-at (take n (pairsListed m windows)) (startedArea m windows area) (w .steps) noPair (r .0))))
 
     -- no cell of the model ever exceeds the value
-    pub cells-le : (i : ℕ) → i < cellsIn m windows → getD (spend (2 ^ 64) (take n (pairsListed m windows)) 0 (startedArea m windows area) .area) i 0 ≤ exact
+    pub cells-le : (i : ℕ) → i < cellsIn m windows → getD (spent m windows 0 n (startedArea m windows area) .area) i 0 ≤ exact
     cells-le i h = subst (λ B. getD B i 0 ≤ exact) (sym (w .left)) (by (cell-or-sum (take (w .steps) (take n (pairsListed m windows))) (startedArea m windows area) i))
       where
         start-cell : getD (startedArea m windows area) i 0 ≤ exact
@@ -142,9 +140,9 @@ module _ (m : Model) (windows : List ℕ) (f : Fit m windows) (area : List ℕ) 
             let b : i < length (filledBy m windows) = omega (arith, length-filled m windows) in
             rw (List·getD-append (filledBy m windows) (drop (cellsIn m windows) area) 0 i b) (filled-le (getD (filledBy m windows) i 0) (getD-in 0 (filledBy m windows) i b))
 
-        by : (getD (run (take (w .steps) (take n (pairsListed m windows))) (startedArea m windows area)) i 0 ≡ getD (startedArea m windows area) i 0)
-            ⊎ List·Memᴰ (getD (run (take (w .steps) (take n (pairsListed m windows))) (startedArea m windows area)) i 0) (trace (take (w .steps) (take n (pairsListed m windows))) (startedArea m windows area))
-            → getD (run (take (w .steps) (take n (pairsListed m windows))) (startedArea m windows area)) i 0 ≤ exact
+        by : (getD (leave (take (w .steps) (take n (pairsListed m windows))) (startedArea m windows area)) i 0 ≡ getD (startedArea m windows area) i 0)
+            ⊎ List·Memᴰ (getD (leave (take (w .steps) (take n (pairsListed m windows))) (startedArea m windows area)) i 0) (trace (take (w .steps) (take n (pairsListed m windows))) (startedArea m windows area))
+            → getD (leave (take (w .steps) (take n (pairsListed m windows))) (startedArea m windows area)) i 0 ≤ exact
         by (inl e) = rw e start-cell
         by (inr k) = sums-le _ (trace-take n (pairsListed m windows) (startedArea m windows area) _ (trace-take (w .steps) (take n (pairsListed m windows)) (startedArea m windows area) _ k))
 
@@ -153,18 +151,18 @@ module _ (m : Model) (windows : List ℕ) (f : Fit m windows) (area : List ℕ) 
       all-taken = take-all n (pairsListed m windows) (omega (arith, listed-pairs m windows f))
 
       -- a run that is not stopped does all pairs and ends with the value in the last cell
-      pub done-all : spend (2 ^ 64) (take n (pairsListed m windows)) 0 (startedArea m windows area) .stopped ≡ false → spend (2 ^ 64) (take n (pairsListed m windows)) 0 (startedArea m windows area) .done ≡ pairsIn m windows
+      pub done-all : spent m windows 0 n (startedArea m windows area) .stopped ≡ false → spent m windows 0 n (startedArea m windows area) .done ≡ pairsIn m windows
       done-all e = w .number ∙ zero-add (w .steps) ∙ w .onward e ∙ ap length all-taken ∙ listed-pairs m windows f
 
-      pub last-value : spend (2 ^ 64) (take n (pairsListed m windows)) 0 (startedArea m windows area) .stopped ≡ false → getD (spend (2 ^ 64) (take n (pairsListed m windows)) 0 (startedArea m windows area) .area) (cellsIn m windows - 1) 0 ≡ exact
+      pub last-value : spent m windows 0 n (startedArea m windows area) .stopped ≡ false → getD (spent m windows 0 n (startedArea m windows area) .area) (cellsIn m windows - 1) 0 ≡ exact
       last-value e =
           let s : take (w .steps) (take n (pairsListed m windows)) ≡ pairsListed m windows = ap (λ k. take k (take n (pairsListed m windows))) (w .onward e) ∙ take-all (length (take n (pairsListed m windows))) (take n (pairsListed m windows)) (le-refl _) ∙ all-taken in
           ap (λ B. getD B (cellsIn m windows - 1) 0) (w .left)
-          ∙ ap (λ ps. getD (run ps (startedArea m windows area)) (cellsIn m windows - 1) 0) s
+          ∙ ap (λ ps. getD (leave ps (startedArea m windows area)) (cellsIn m windows - 1) 0) s
           ∙ whole-value (centresOf m) windows (f .wide) (f .on) (f .visited) (treeOf m) (f .every) (startedArea m windows area) held laid
 
       -- if neither a leaf nor a pair is too large, the value is not
-      pub value-low : some tooLarge (filledBy m windows) ≡ false → spend (2 ^ 64) (take n (pairsListed m windows)) 0 (startedArea m windows area) .stopped ≡ false → exact < 2 ^ 64
+      pub value-low : some tooLarge (filledBy m windows) ≡ false → spent m windows 0 n (startedArea m windows area) .stopped ≡ false → exact < 2 ^ 64
       value-low a e = subst (λ x. x < 2 ^ 64) (last-value e) (subst (λ B. getD B (cellsIn m windows - 1) 0 < 2 ^ 64) (sym (w .left)) (by (cell-or-sum (take (w .steps) (take n (pairsListed m windows))) (startedArea m windows area) (cellsIn m windows - 1))))
         where
           here : getD (startedArea m windows area) (cellsIn m windows - 1) 0 < 2 ^ 64
@@ -172,9 +170,9 @@ module _ (m : Model) (windows : List ℕ) (f : Fit m windows) (area : List ℕ) 
               let b : cellsIn m windows - 1 < length (filledBy m windows) = omega (arith, length-filled m windows, cells-some (routesOf (centresOf m)) windows (treeOf m)) in
               rw (List·getD-append (filledBy m windows) (drop (cellsIn m windows) area) 0 (cellsIn m windows - 1) b) (leb-false (2 ^ 64) _ (none-of tooLarge (getD-in 0 (filledBy m windows) (cellsIn m windows - 1) b) a))
 
-          by : (getD (run (take (w .steps) (take n (pairsListed m windows))) (startedArea m windows area)) (cellsIn m windows - 1) 0 ≡ getD (startedArea m windows area) (cellsIn m windows - 1) 0)
-              ⊎ List·Memᴰ (getD (run (take (w .steps) (take n (pairsListed m windows))) (startedArea m windows area)) (cellsIn m windows - 1) 0) (trace (take (w .steps) (take n (pairsListed m windows))) (startedArea m windows area))
-              → getD (run (take (w .steps) (take n (pairsListed m windows))) (startedArea m windows area)) (cellsIn m windows - 1) 0 < 2 ^ 64
+          by : (getD (leave (take (w .steps) (take n (pairsListed m windows))) (startedArea m windows area)) (cellsIn m windows - 1) 0 ≡ getD (startedArea m windows area) (cellsIn m windows - 1) 0)
+              ⊎ List·Memᴰ (getD (leave (take (w .steps) (take n (pairsListed m windows))) (startedArea m windows area)) (cellsIn m windows - 1) 0) (trace (take (w .steps) (take n (pairsListed m windows))) (startedArea m windows area))
+              → getD (leave (take (w .steps) (take n (pairsListed m windows))) (startedArea m windows area)) (cellsIn m windows - 1) 0 < 2 ^ 64
           by (inl z) = rw z here
           by (inr k) =
               lead-below (2 ^ 64) (trace (take n (pairsListed m windows)) (startedArea m windows area))

@@ -1,9 +1,15 @@
-pub mod Starred
 pub mod FileLaws
+pub mod GrantedLaws
 pub mod SlotLaws
+pub mod SpendingLaws
 pub mod ExactLaws
+pub mod LoadLaws
+pub mod PastLaws
+pub mod RefusalLaws
+pub mod Demand1
 pub mod Demand2
 pub mod Demand3
-pub mod Demand1
+pub mod Starred
+pub mod RefusedFiles
 pub mod Determined
 pub mod WrongPrograms

@@ -1,30 +1,31 @@
--- Budgets add up: advances with any budgets, zeros too, answer and leave what one advance with their sum does, from any number done and any
--- area. Two advances first, by the law that pairs can be spent in portions; then any number of them.
+-- Budgets add up: advances with any budgets, zeros too, leave what one spending of their sum leaves, from any number done and any area, also
+-- past a pair that stops: that pair stops every later budget too, and a budget of 0 is not stopped. One induction over the budgets.
 use Prim.Native.Nat.{ℕ, zero, suc, _+_, _-_, _^_, _≤_, _<_, min}
-use mathlib.Core.Path.{_≡_, refl, sym, ap, subst, _∙_, fun-ext}
-use mathlib.Core.Bool.{Bool, true, false, _||_}
+use mathlib.Core.Path.{_≡_, refl, sym, ap, subst, _∙_}
+use mathlib.Core.Bool.{Bool, true, false, _||_, _&&_, true≢false}
 use mathlib.Core.List.{List, [], _∷_, _++_}
 use native.Mathlib.Omega.{arith}
-use native.Mathlib.Nat.{add-zero, add-assoc}
+use native.Mathlib.Nat.{add-zero}
 use lib.Dec.{ltb, eqb}
 use lib.ListN.{length, getD, take, drop, length-take, length-drop}
-use lib.Seq.{take-add}
-use borrow.Author.Tests.{ltb-false, le-ltb}
+use lib.Seq.{take-add, take-take, getD-take, getD-drop}
+use borrow.Author.Tests.{ltb-true, ltb-false, lt-ltb, le-ltb, ne-eqb}
 use Rattle.sums.specs.Choice.{choose}
 use Rattle.sums.specs.Sums.{sumOver}
 use Rattle.network.specs.Centre.{routesOf}
 use Rattle.network.specs.Pairs.{Pair}
-use Rattle.network.specs.Run.{Progress, spend}
+use Rattle.network.specs.Run.{sumAt, leave, noPair, Progress, spend}
 use Rattle.network.proofs.CountLaws.{length-listed}
-use Rattle.network.proofs.SpendLaws.{spend-append, spend-done, spend-length, portion-next}
+use Rattle.network.proofs.SpendLaws.{spend-append, spend-done, spend-length, spend-again, portion-next, Went, went, trace-is, lead-at}
 use Rattle.network.proofs.WholeLaws.{all-under}
-use Rattle.modelfile.specs.Network.{windowsOf, centresOf, treeOf}
+use Rattle.modelfile.specs.Network.{centresOf, treeOf}
 use Rattle.modelfile.specs.declared.Model.{Model}
-use Rattle.calls.specs.Answers.{Left}
+use Rattle.calls.specs.Answers.{Left, advanceNumbers}
 use Rattle.calls.specs.Asked.{Asked, refused, granted, ask, onGranted, cellsIn, pairsIn, pairsListed}
 use Rattle.calls.specs.Start.{noRoom}
 use Rattle.calls.specs.Advance.{noAdvance, valueAt, told, advanceIn, advance}
-use Rattle.calls.specs.Slots.{onAdvanced, advances}
+use Rattle.calls.specs.Slots.{onDone, sum, lastOf, advances}
+use Rattle.calls.specs.Spending.{Spending, GoesOn}
 use Rattle.calls.specs.declared.AdvanceAnswer.{AdvanceAnswer}
 use Rattle.calls.proofs.FileLaws.{Fit, granted-fit}
 
@@ -32,77 +33,122 @@ use Rattle.calls.proofs.FileLaws.{Fit, granted-fit}
 pub listed-pairs : (m : Model) (windows : List ℕ) → Fit m windows → length (pairsListed m windows) ≡ pairsIn m windows
 listed-pairs m windows f = length-listed (routesOf (centresOf m)) windows (treeOf m) [] (all-under (centresOf m) windows (f .wide) (f .on) (f .visited) (treeOf m) (f .every)) 0
 
-module _ (m : Model) (windows : List ℕ) (f : Fit m windows) (done b c : ℕ) (A : List ℕ) where
-  -- what is spent by the first budget, and by both
-  first : Progress
-  first = spend (2 ^ 64) (take b (drop done (pairsListed m windows))) done A
+-- n pairs spent after those done
+abbrev pub spent : Model → List ℕ → ℕ → ℕ → List ℕ → Progress
+spent m windows done n A = spend (2 ^ 64) (take n (drop done (pairsListed m windows))) done A
 
-  both : Progress
-  both = spend (2 ^ 64) (take (b + c) (drop done (pairsListed m windows))) done A
+-- what the last advance is told, if its budget was `last`: one of 0 is not stopped
+abbrev pub toldLast : Model → List ℕ → ℕ → Progress → Left AdvanceAnswer
+toldLast m windows last p = told m windows (record { done = p .done; area = p .area; stopped = p .stopped && ltb 0 last })
 
-  rest : Progress
-  rest = spend (2 ^ 64) (take c (drop b (drop done (pairsListed m windows)))) (first .done) (first .area)
+-- a room stays a room, whatever is written
+pub room-same : (cells : ℕ) (A B : List ℕ) → length B ≡ length A → noRoom cells A ≡ false → noRoom cells B ≡ false
+unfolding noRoom
+room-same cells A B e r = ap (λ n. ltb 8192 cells || ltb n cells) e ∙ r
 
-  both-is : both ≡ choose (first .stopped) (λ u. first) (λ u. rest)
-  unfolding both first rest
-  both-is = ap (λ ps. spend (2 ^ 64) ps done A) (take-add b c (drop done (pairsListed m windows))) ∙ spend-append (2 ^ 64) (take b (drop done (pairsListed m windows))) (take c (drop b (drop done (pairsListed m windows)))) done A
+-- ---- tests of a budget
 
-  stepAt : Bool → Bool → Bool → Left AdvanceAnswer
-  stepAt room high stopped =
-      choose room (λ u. noAdvance 12 0 A) λ u.
-      choose high (λ u. noAdvance 13 0 A) λ u.
-      choose stopped (λ u. record { answer = AdvanceAnswer.Stopped (first .done); area = first .area }) λ u.
-      record { answer = AdvanceAnswer.Advanced (first .done) (valueAt m windows (first .done) (first .area)); area = first .area }
+and-true : (t : Bool) → (t && true) ≡ t
+and-true true = refl
+and-true false = refl
 
-  -- a second advance after one that went on
-  next-is : noRoom (cellsIn m windows) A ≡ false → ltb (pairsIn m windows) done ≡ false → first .stopped ≡ false → advanceIn m windows (first .done) c (first .area) ≡ told m windows both
-  unfolding advanceIn noRoom first rest
-  next-is r h s =
-      let long : length (first .area) ≡ length A = spend-length (2 ^ 64) (take b (drop done (pairsListed m windows))) done A in
-      let d : first .done ≡ done + length (take b (drop done (pairsListed m windows))) = spend-done (2 ^ 64) (take b (drop done (pairsListed m windows))) done A s in
-      let low : done ≤ length (pairsListed m windows) = omega (arith, ltb-false (pairsIn m windows) done h, listed-pairs m windows f) in
-      let top : ltb (pairsIn m windows) (first .done) ≡ false = le-ltb (pairsIn m windows) (first .done) (omega (arith, length-take b (drop done (pairsListed m windows)), length-drop done (pairsListed m windows), listed-pairs m windows f)) in
-      let room : (ltb 8192 (cellsIn m windows) || ltb (length (first .area)) (cellsIn m windows)) ≡ false = ap (λ n. ltb 8192 (cellsIn m windows) || ltb n (cellsIn m windows)) long ∙ r in
-      let ps : take c (drop (first .done) (pairsListed m windows)) ≡ take c (drop b (drop done (pairsListed m windows))) = ap (λ n. take c (drop n (pairsListed m windows))) d ∙ portion-next (pairsListed m windows) done b c low in
-      (λ i. choose (room i) (λ u. noAdvance 12 0 (first .area)) (λ u. choose (top i) (λ u. noAdvance 13 0 (first .area)) (λ u. told m windows (spend (2 ^ 64) (ps i) (first .done) (first .area)))))
-      ∙ ap (told m windows) (sym (both-is ∙ ap (λ t. choose t (λ u. first) (λ u. rest)) s))
+and-false : (t : Bool) → (t && false) ≡ false
+and-false true = refl
+and-false false = refl
 
-  two-advances : onAdvanced (advanceIn m windows done b A .answer) (advanceIn m windows done b A .area) (λ d. advanceIn m windows d c (advanceIn m windows done b A .area)) ≡ advanceIn m windows done (b + c) A
-  unfolding advanceIn told first both stepAt
-  two-advances = by (noRoom (cellsIn m windows) A) (ltb (pairsIn m windows) done) (first .stopped) refl refl refl
+last-le : (b : ℕ) (bs : List ℕ) → lastOf b bs ≤ b + sum bs
+unfolding lastOf sumOver
+last-le b [] = omega arith
+last-le b (c ∷ bs) = omega (arith, last-le c bs)
+
+-- a stop is told again by a later budget of n in all exactly if the last of these is not 0
+stop-last : (n last : ℕ) → last ≤ n → (ltb 0 n && ltb 0 last) ≡ ltb 0 last
+stop-last n zero h = ap (λ t. ltb 0 n && t) (le-ltb 0 0 (omega arith)) ∙ and-false (ltb 0 n) ∙ sym (le-ltb 0 0 (omega arith))
+stop-last n (suc last) h = ap (λ t. t && ltb 0 (suc last)) (lt-ltb 0 n (omega arith))
+
+-- ---- one advance
+
+module _ (file : List ℕ) (lower : ℕ) (m : Model) (windows : List ℕ) (asked : ask file lower ≡ granted m windows) where
+  f : Fit m windows
+  f = granted-fit file lower m windows asked .1
+
+  module _ (done : ℕ) (A : List ℕ) (room : noRoom (cellsIn m windows) A ≡ false) (low : done ≤ pairsIn m windows) where
+    pub advance-is : (n : ℕ) → advance file lower done n A ≡ told m windows (spent m windows done n A)
+    unfolding advance advanceIn
+    advance-is n =
+        let h : ltb (pairsIn m windows) done ≡ false = le-ltb (pairsIn m windows) done low in
+        ap (λ a. onGranted a (λ number place. noAdvance number place A) (λ m windows. advanceIn m windows done n A)) asked
+        ∙ (λ i. choose (room i) (λ u. noAdvance 12 0 A) (λ u. choose (h i) (λ u. noAdvance 13 0 A) (λ u. told m windows (spent m windows done n A))))
+
+    -- the number done never passes the total, and the area keeps its length
+    pub spent-low : (n : ℕ) → spent m windows done n A .done ≤ pairsIn m windows
+    spent-low n =
+        let w = went (2 ^ 64) (take n (drop done (pairsListed m windows))) done A in
+        omega (arith, w .number, w .few, length-take n (drop done (pairsListed m windows)), length-drop done (pairsListed m windows), listed-pairs m windows f)
+
+    pub spent-room : (n : ℕ) → noRoom (cellsIn m windows) (spent m windows done n A .area) ≡ false
+    spent-room n = room-same (cellsIn m windows) A (spent m windows done n A .area) (spend-length (2 ^ 64) (take n (drop done (pairsListed m windows))) done A) room
+
+    -- no pair stops a budget of 0
+    pub last-alone : (b : ℕ) → told m windows (spent m windows done b A) ≡ toldLast m windows b (spent m windows done b A)
+    unfolding spend
+    last-alone zero = ap (λ t. told m windows (record { done = done; area = A; stopped = t })) (sym (ap (λ t. false && t) (le-ltb 0 0 (omega arith))))
+    last-alone (suc b) =
+        let p = spent m windows done (suc b) A in
+        ap (λ t. told m windows (record { done = p .done; area = p .area; stopped = t })) (sym (ap (λ t. p .stopped && t) (lt-ltb 0 (suc b) (omega arith)) ∙ and-true (p .stopped)))
+
+    -- what is spent after a first portion of b pairs, stopped or not, is told as if all had been spent at once
+    pub portions : (b n last : ℕ) → last ≤ n
+        → (let p = spent m windows done b A in
+        toldLast m windows last (spent m windows (p .done) n (p .area)) ≡ toldLast m windows last (spent m windows done (b + n) A))
+    portions b n last h = by (p .stopped) refl
+      where
+        l : List Pair
+        l = pairsListed m windows
+
+        p : Progress
+        p = spent m windows done b A
+
+        both : spent m windows done (b + n) A ≡ choose (p .stopped) (λ u. p) (λ u. spend (2 ^ 64) (take n (drop b (drop done l))) (p .done) (p .area))
+        both =
+            ap (λ ps. spend (2 ^ 64) ps done A) (take-add b n (drop done (pairsListed m windows)))
+            ∙ spend-append (2 ^ 64) (take b (drop done (pairsListed m windows))) (take n (drop b (drop done (pairsListed m windows)))) done A
+
+        by : (t : Bool) → p .stopped ≡ t → toldLast m windows last (spent m windows (p .done) n (p .area)) ≡ toldLast m windows last (spent m windows done (b + n) A)
+        by true e =
+            ap (toldLast m windows last) (spend-again (2 ^ 64) (pairsListed m windows) done b n A e)
+            ∙ ap (λ t. told m windows (record { done = p .done; area = p .area; stopped = t })) (stop-last n last h ∙ sym (ap (λ t. t && ltb 0 last) e))
+            ∙ sym (ap (toldLast m windows last) (both ∙ ap (λ t. choose t (λ u. p) (λ u. spend (2 ^ 64) (take n (drop b (drop done l))) (p .done) (p .area))) e))
+        by false e =
+            let d : p .done ≡ done + length (take b (drop done l)) = spend-done (2 ^ 64) (take b (drop done l)) done A e in
+            let under : done ≤ length l = omega (arith, low, listed-pairs m windows f) in
+            let ps : take n (drop (p .done) l) ≡ take n (drop b (drop done l)) = ap (λ k. take n (drop k l)) d ∙ portion-next l done b n under in
+            ap (λ qs. toldLast m windows last (spend (2 ^ 64) qs (p .done) (p .area))) ps
+            ∙ sym (ap (toldLast m windows last) (both ∙ ap (λ t. choose t (λ u. p) (λ u. spend (2 ^ 64) (take n (drop b (drop done l))) (p .done) (p .area))) e))
+
+  -- what was told hands on the number done and the area, stopped or not
+  on-told : (p : Progress) (next : ℕ → List ℕ → Left AdvanceAnswer) → onDone (told m windows p .answer) (told m windows p .area) (λ d. next d (told m windows p .area)) ≡ next (p .done) (p .area)
+  unfolding told
+  on-told p next = by (p .stopped)
     where
-      by : (room high stopped : Bool) → noRoom (cellsIn m windows) A ≡ room → ltb (pairsIn m windows) done ≡ high → first .stopped ≡ stopped
-          → onAdvanced (stepAt room high stopped .answer) (stepAt room high stopped .area) (λ d. advanceIn m windows d c (stepAt room high stopped .area))
-          ≡ choose room (λ u. noAdvance 12 0 A) (λ u. choose high (λ u. noAdvance 13 0 A) (λ u. told m windows both))
-      by true high stopped r h s = refl
-      by false true stopped r h s = refl
-      by false false true r h s =
-          let e : both ≡ first = both-is ∙ ap (λ t. choose t (λ u. first) (λ u. rest)) s in
-          sym (ap (told m windows) e ∙ ap (λ t. choose t (λ u. record { answer = AdvanceAnswer.Stopped (first .done); area = first .area }) (λ u. record { answer = AdvanceAnswer.Advanced (first .done) (valueAt m windows (first .done) (first .area)); area = first .area })) s)
-      by false false false r h s = next-is r h s
+      end : Bool → Left AdvanceAnswer
+      end t = choose t (λ u. record { answer = AdvanceAnswer.Stopped (p .done); area = p .area }) (λ u. record { answer = AdvanceAnswer.Advanced (p .done) (valueAt m windows (p .done) (p .area)); area = p .area })
 
--- two advances of any file
-pub advance-twice : (file : List ℕ) (lower done b c : ℕ) (A : List ℕ)
-    → onAdvanced (advance file lower done b A .answer) (advance file lower done b A .area) (λ d. advance file lower d c (advance file lower done b A .area)) ≡ advance file lower done (b + c) A
-unfolding advance
-advance-twice file lower done b c A = by (ask file lower) refl
-  where
-    by : (a : Asked) → ask file lower ≡ a
-        → (let r = onGranted a (λ number place. noAdvance number place A) (λ m windows. advanceIn m windows done b A) in
-        onAdvanced (r .answer) (r .area) (λ d. onGranted a (λ number place. noAdvance number place (r .area)) (λ m windows. advanceIn m windows d c (r .area))))
-        ≡ onGranted a (λ number place. noAdvance number place A) (λ m windows. advanceIn m windows done (b + c) A)
-    by (refused number place) e = refl
-    by (granted m windows) e = two-advances m windows (granted-fit file lower m windows e .1) done b c A
+      by : (t : Bool) → onDone (end t .answer) (end t .area) (λ d. next d (end t .area)) ≡ next (p .done) (p .area)
+      by true = refl
+      by false = refl
 
--- what budgets add up to
-abbrev pub sum : List ℕ → ℕ
-sum bs = sumOver bs (λ b. b)
+  -- ---- any number of them
 
--- any number of advances
-pub slots : (file : List ℕ) (lower done b : ℕ) (bs A : List ℕ) → advances file lower done b bs A ≡ advance file lower done (b + sum bs) A
-unfolding advances sumOver
-slots file lower done b [] A = ap (λ n. advance file lower done n A) (sym (add-zero b))
-slots file lower done b (c ∷ bs) A =
-    let r = advance file lower done b A in
-    ap (onAdvanced (r .answer) (r .area)) (fun-ext (λ d. slots file lower d c bs (r .area)))
-    ∙ advance-twice file lower done b (c + sum bs) A
+  pub slots : (bs : List ℕ) (b done : ℕ) (A : List ℕ) → noRoom (cellsIn m windows) A ≡ false → done ≤ pairsIn m windows
+      → advances file lower done b bs A ≡ toldLast m windows (lastOf b bs) (spent m windows done (b + sum bs) A)
+  unfolding advances sumOver lastOf
+  slots [] b done A room low =
+      advance-is done A room low b ∙ last-alone done A room low b
+      ∙ ap (λ n. toldLast m windows b (spent m windows done n A)) (sym (add-zero b))
+  slots (c ∷ bs) b done A room low =
+      let p = spent m windows done b A in
+      (λ i. onDone (advance-is done A room low b i .answer) (advance-is done A room low b i .area) (λ d. advances file lower d c bs (advance-is done A room low b i .area)))
+      ∙ on-told p (λ d B. advances file lower d c bs B)
+      ∙ slots bs c (p .done) (p .area) (spent-room done A room low b) (spent-low done A room low b)
+      ∙ portions done A room low b (c + sum bs) (lastOf c bs) (last-le c bs)

@@ -25,13 +25,18 @@ pickAsked false stop on = on
 abbrev pub lessOne : List ℕ → ℕ → List ℕ
 lessOne windows k = set windows k (getD windows k 0 - 1)
 
+-- the windows of a run
+abbrev pub runWindows : Model → ℕ → List ℕ
+runWindows m zero = windowsOf m
+runWindows m (suc k) = lessOne (windowsOf m) k
+
 -- 10: "lowered chain above the number of chains"; 11: "lowered chain has window 0"
 unfoldable pub lowering : Model → ℕ → Asked
-lowering m zero = granted m (windowsOf m)
+lowering m zero = granted m (runWindows m zero)
 lowering m (suc k) =
     pickAsked (ltb (m .chains) (suc k)) (refused 10 0)
     (pickAsked (eqb (getD (windowsOf m) k 0) 0) (refused 11 0)
-    (granted m (lessOne (windowsOf m) k)))
+    (granted m (runWindows m (suc k))))
 
 abbrev pub onVerdict : Verdict → Asked → Asked
 onVerdict Verdict.Accepted asked = asked
@@ -39,6 +44,13 @@ onVerdict (Verdict.Refused number place) asked = refused number place
 
 unfoldable pub ask : List ℕ → ℕ → Asked
 ask file lower = onVerdict (readFile file .verdict) (lowering (readFile file .model) lower)
+
+-- the model of a file, and the windows of a run of it
+abbrev pub modelOf : List ℕ → Model
+modelOf file = readFile file .model
+
+abbrev pub windowsFor : List ℕ → ℕ → List ℕ
+windowsFor file lower = runWindows (modelOf file) lower
 
 -- what is answered where nothing of 1 to 11 is refused
 module _ {A : Type 0} where

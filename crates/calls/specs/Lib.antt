@@ -1,7 +1,10 @@
 pub mod Answers
 pub mod Asked
+pub mod Refusals
 pub mod Plan
 pub mod Start
 pub mod Advance
 pub mod Slots
 pub mod Sheet
+pub mod Spending
+pub mod Promises

@@ -11,7 +11,7 @@ use Rattle.sums.specs.Sums.{sumOver}
 use Rattle.network.specs.States.{value, lowered}
 use Rattle.modelfile.specs.Network.{windowsOf, loadsOf, centresOf}
 use Rattle.modelfile.specs.declared.Model.{Model}
-use Rattle.calls.specs.Answers.{Left}
+use Rattle.calls.specs.Answers.{Left, noSheet}
 use Rattle.calls.specs.Asked.{ask, onGranted, cellsIn, pairsIn}
 use Rattle.calls.specs.Start.{noRoom, tooLarge}
 use Rattle.calls.specs.declared.SheetAnswer.{SheetAnswer}
@@ -39,18 +39,20 @@ firstWith n (x ∷ xs) = choose (eqb x n) (λ u. 1) (λ u. suc (firstWith n xs))
 unfoldable pub busiest : Model → ℕ
 busiest m = let sums = map (loadSum m) (from 1 (m .centres)) in firstWith (largest sums) sums
 
-unfoldable pub noSheet : ℕ → ℕ → SheetAnswer
-noSheet number place = record { refusal = number; place = place; value = 0; pairs = 0; cells = 0; chains = 0; numerators = replicate 8 0; busiest = 0 }
-
 unfoldable pub numerators : Model → List ℕ
 numerators m = map (numerator m) (from 1 8)
+
+unfoldable pub fullSheet : Model → SheetAnswer
+fullSheet m =
+    let windows = windowsOf m in
+    record { refusal = 0; place = 0; value = fullValue m; pairs = pairsIn m windows; cells = cellsIn m windows; chains = m .chains; numerators = numerators m; busiest = busiest m }
 
 -- 14: G(N) is 2^64 or more; 15: "G(N) is below 2^64, a lowered value isn't"
 unfoldable pub sheetOf : Model → SheetAnswer
 sheetOf m =
     choose (tooLarge (fullValue m)) (λ u. noSheet 14 0) λ u.
     choose (some tooLarge (numerators m)) (λ u. noSheet 15 0) λ u.
-    record { refusal = 0; place = 0; value = fullValue m; pairs = pairsIn m (windowsOf m); cells = cellsIn m (windowsOf m); chains = m .chains; numerators = numerators m; busiest = busiest m }
+    fullSheet m
 
 -- "Afterwards the full model's cells are all 0", at 14 and 15 too
 unfoldable pub cleared : ℕ → List ℕ → List ℕ

@@ -3,7 +3,7 @@
 use Prim.Native.Nat.{ℕ, zero, suc, _+_, _-_, _≤_, _<_}
 use mathlib.Core.Path.{_≡_, refl, sym, ap, subst, _∙_}
 use mathlib.Core.Bool.{Bool, true, false, not, _||_, true≢false}
-use mathlib.Core.List.{List, [], _∷_, _++_, map, zipWith, List·Memᴰ, List·Memᴰ·head, List·Memᴰ·tail, List·Permᴰ, List·Permᴰ·trans, Permᴰ·symm}
+use mathlib.Core.List.{List, [], _∷_, _++_, map, zipWith, List·Memᴰ, List·Memᴰ·head, List·Memᴰ·tail, List·Permᴰ, Permᴰ·refl, List·Permᴰ·trans, Permᴰ·symm, append-nil}
 use native.Mathlib.Omega.{arith}
 use native.Mathlib.Nat.{add-zero, zero-add}
 use lib.ListN.{length, length-map}
@@ -18,7 +18,7 @@ use Rattle.network.specs.Cells.{span, spansAt, centreBy}
 use Rattle.network.proofs.ValueLaws.{G}
 use Rattle.network.proofs.CoverageLaws.{Parted, coverage-parts}
 use Rattle.network.proofs.CellLaws.{In, Inside}
-use Rattle.network.proofs.CoverLaws.{Fits, cover, AllOn, bound}
+use Rattle.network.proofs.CoverLaws.{Fits, cover, Wide, AllOn, G-on, bound}
 use Rattle.network.proofs.NodeLaws.{by-number, AllWide, pickedFrom, parted-numbers, picked-in, picked-wide, cover-some, valueUnder}
 
 -- a chain that is finished at the node visits none of the rest; one that is partial or absent does
@@ -55,6 +55,13 @@ left-over (Beyonds.chain Beyond.more bs) (n ∷ N) v e (Inside.more (In.low {i =
     let r = left-over bs N _ (omega arith) i in let d : x + (n - x) ≡ n = omega arith in record { rest = (n - x) ∷ r .rest; split = Split.more d (r .split); fit = Fits.free (n - x) (r .fit) }
 left-over (Beyonds.chain Beyond.every bs) (n ∷ N) v e (Inside.more In.here i) =
     let r = left-over bs N _ (omega arith) i in record { rest = n ∷ r .rest; split = Split.more (zero-add n) (r .split); fit = Fits.free n (r .fit) }
+
+-- whatever the numbers are, they fit where every chain visits
+fits-every : (marks : ℕ → Bool) (ks N : List ℕ) → length ks ≡ length N → ((k : ℕ) → List·Memᴰ k ks → marks k ≡ true) → Fits (map marks ks) N
+fits-every marks [] [] e f = Fits.none
+fits-every marks [] (n ∷ N) e f = absurd (omega arith)
+fits-every marks (k ∷ ks) [] e f = absurd (omega arith)
+fits-every marks (k ∷ ks) (n ∷ N) e f = rw (f k (List·Memᴰ·head refl)) (Fits.free n (fits-every marks ks N (omega arith) (λ j m. f j (List·Memᴰ·tail m))))
 
 -- every chain visits a centre
 abbrev pub AllVisited : List Route → ℕ → Type 0
@@ -93,3 +100,14 @@ module _ (centres : List Centre) (w : ℕ) (wide : AllWide w centres) (on : AllO
       bound w (pickedFrom centres (under t)) (pickedFrom centres rest) centres (all-picked (under t) rest parted) (picked-wide centres w wide rest numbers)
       (λ c m. on c (picked-in centres w wide rest numbers c m)) v (r .rest) windows (r .split)
       (subst (λ o. Fits o (r .rest)) (sym (cover-some centres w wide rest numbers)) (r .fit))
+
+  -- the value is at least 1: every chain has somewhere to stand
+  pub value-some : (windows : List ℕ) → length windows ≡ w → 1 ≤ G centres windows
+  value-some windows h =
+      let every = from 1 (length (routesOf centres)) in
+      let parted : Parted (routesOf centres) every [] = subst (λ l. List·Permᴰ l every) (sym (append-nil every)) (Permᴰ·refl every) in
+      let numbers = parted-numbers centres w wide every [] parted in
+      let picked : pickedFrom centres every ≡ centres = by-number centres _ (length (routesOf centres)) (sym (length-map centres (λ c. c .route))) in
+      let covers : map (λ k. some (visits (routesOf centres) k) every) (from 1 w) ≡ cover w centres = sym (cover-some centres w wide every numbers) ∙ ap (cover w) picked in
+      G-on w (subst (Wide w) picked (picked-wide centres w wide every numbers)) on windows
+      (subst (λ o. Fits o windows) covers (fits-every (λ k. some (visits (routesOf centres) k) every) (from 1 w) windows (length-from 1 w ∙ sym h) visited))

@@ -12,24 +12,20 @@ use Rattle.sums.specs.Sums.{sumOver}
 use Rattle.sums.proofs.SumLaws.{sumOver-cong}
 use Rattle.sums.proofs.ListLaws.{map-cong, flat-cong, nodup-head, nodup-tail}
 use Rattle.network.specs.Pairs.{Pair}
-use Rattle.network.specs.Run.{sumAt, add}
+use Rattle.network.specs.Run.{sumAt, add, leave}
 
--- all pairs, with no limit, and the sums they form
-unfoldable pub run : List Pair → List ℕ → List ℕ
-run [] A = A
-run (p ∷ ps) A = run ps (add A p)
-
+-- the sums that pairs form, one after the other
 unfoldable pub trace : List Pair → List ℕ → List ℕ
 trace [] A = []
 trace (p ∷ ps) A = sumAt A p ∷ trace ps (add A p)
 
-pub run-append : (ps qs : List Pair) (A : List ℕ) → run (ps ++ qs) A ≡ run qs (run ps A)
-unfolding run
-run-append [] qs A = refl
-run-append (p ∷ ps) qs A = run-append ps qs (add A p)
+pub leave-append : (ps qs : List Pair) (A : List ℕ) → leave (ps ++ qs) A ≡ leave qs (leave ps A)
+unfolding leave
+leave-append [] qs A = refl
+leave-append (p ∷ ps) qs A = leave-append ps qs (add A p)
 
-pub trace-append : (ps qs : List Pair) (A : List ℕ) → trace (ps ++ qs) A ≡ trace ps A ++ trace qs (run ps A)
-unfolding run trace
+pub trace-append : (ps qs : List Pair) (A : List ℕ) → trace (ps ++ qs) A ≡ trace ps A ++ trace qs (leave ps A)
+unfolding leave trace
 trace-append [] qs A = refl
 trace-append (p ∷ ps) qs A = ap (λ l. sumAt A p ∷ l) (trace-append ps qs (add A p))
 
@@ -46,21 +42,21 @@ pub add-other : (A : List ℕ) (p : Pair) (i : ℕ) → (i ≡ p .result → ⊥
 unfolding add
 add-other A p i f = getD-set-other A (p .result) i (sumAt A p) 0 f
 
-pub length-run : (ps : List Pair) (A : List ℕ) → length (run ps A) ≡ length A
-unfolding run
-length-run [] A = refl
-length-run (p ∷ ps) A = length-run ps (add A p) ∙ length-add A p
+pub length-leave : (ps : List Pair) (A : List ℕ) → length (leave ps A) ≡ length A
+unfolding leave
+length-leave [] A = refl
+length-leave (p ∷ ps) A = length-leave ps (add A p) ∙ length-add A p
 
 -- each pair's sum is in the trace
-pub trace-at : (ps : List Pair) (A : List ℕ) (n : ℕ) (d : Pair) → n < length ps → List·Memᴰ (sumAt (run (take n ps) A) (getD ps n d)) (trace ps A)
-unfolding run trace
+pub trace-at : (ps : List Pair) (A : List ℕ) (n : ℕ) (d : Pair) → n < length ps → List·Memᴰ (sumAt (leave (take n ps) A) (getD ps n d)) (trace ps A)
+unfolding leave trace
 trace-at [] A n d h = absurd (omega arith)
 trace-at (p ∷ ps) A zero d h = List·Memᴰ·head refl
 trace-at (p ∷ ps) A (suc n) d h = List·Memᴰ·tail (trace-at ps (add A p) n d (omega arith))
 
 -- what the first pairs form is formed by all
 pub trace-take : (n : ℕ) (ps : List Pair) (A : List ℕ) (x : ℕ) → List·Memᴰ x (trace (take n ps) A) → List·Memᴰ x (trace ps A)
-trace-take n ps A x m = subst (λ l. List·Memᴰ x (trace l A)) (take-append-drop n ps) (subst (λ l. List·Memᴰ x l) (sym (trace-append (take n ps) (drop n ps) A)) (Memᴰ·append-left (trace (drop n ps) (run (take n ps) A)) m))
+trace-take n ps A x m = subst (λ l. List·Memᴰ x (trace l A)) (take-append-drop n ps) (subst (λ l. List·Memᴰ x l) (sym (trace-append (take n ps) (drop n ps) A)) (Memᴰ·append-left (trace (drop n ps) (leave (take n ps) A)) m))
 
 -- ---- pairs with one result cell
 
@@ -83,8 +79,8 @@ Apart q ps = (p : ℕ × ℕ) → List·Memᴰ p ps → (p .0 ≡ q → ⊥) × 
 product-apart : (A : List ℕ) (q x : ℕ) (p : ℕ × ℕ) → (p .0 ≡ q → ⊥) → (p .1 ≡ q → ⊥) → product (set A q x) p ≡ product A p
 product-apart A q x p f g = λ i. getD-set-other A q (p .0) x 0 f i * getD-set-other A q (p .1) x 0 g i
 
-pub block-run : (q : ℕ) (ps : List (ℕ × ℕ)) (A : List ℕ) → q < length A → Apart q ps → run (block q ps) A ≡ set A q (getD A q 0 + sumOver ps (product A))
-unfolding run add sumAt sumOver
+pub block-run : (q : ℕ) (ps : List (ℕ × ℕ)) (A : List ℕ) → q < length A → Apart q ps → leave (block q ps) A ≡ set A q (getD A q 0 + sumOver ps (product A))
+unfolding leave add sumAt sumOver
 block-run q [] A h f = sym (ap (set A q) (add-zero (getD A q 0)) ∙ set-getD A q 0)
 block-run q (p ∷ ps) A h f =
     let x = getD A q 0 + product A p in
@@ -127,13 +123,13 @@ module _ {I : Type 0} (e : ℕ) (q : I → ℕ) (ps : I → List (ℕ × ℕ)) w
       (λ d. omega (arith, f .0, f .1, r .0), λ d. omega (arith, f .0, f .1, r .0))
 
   -- what is not a result cell stays
-  pub blocks-same : (vs : List I) (A : List ℕ) → Clear (length A) vs → (i : ℕ) → ((v : I) → List·Memᴰ v vs → i ≡ q v → ⊥) → getD (run (blocks vs) A) i 0 ≡ getD A i 0
-  unfolding run flatMap
+  pub blocks-same : (vs : List I) (A : List ℕ) → Clear (length A) vs → (i : ℕ) → ((v : I) → List·Memᴰ v vs → i ≡ q v → ⊥) → getD (leave (blocks vs) A) i 0 ≡ getD A i 0
+  unfolding leave flatMap
   blocks-same [] A c i f = refl
   blocks-same (v ∷ vs) A c i f =
       let x = getD A (q v) 0 + sumOver (ps v) (product A) in
       let B = set A (q v) x in
-      ap (λ C. getD C i 0) (run-append (block (q v) (ps v)) (blocks vs) A ∙ ap (run (blocks vs)) (block-run (q v) (ps v) A (c .results v (List·Memᴰ·head refl) .1) (clear-apart c)))
+      ap (λ C. getD C i 0) (leave-append (block (q v) (ps v)) (blocks vs) A ∙ ap (leave (blocks vs)) (block-run (q v) (ps v) A (c .results v (List·Memᴰ·head refl) .1) (clear-apart c)))
       ∙ blocks-same vs B (subst (λ n. Clear n vs) (sym (length-set A (q v) x)) (clear-tail c)) i (λ u m. f u (List·Memᴰ·tail m))
       ∙ getD-set-other A (q v) i x 0 (f v (List·Memᴰ·head refl))
 
@@ -145,15 +141,15 @@ module _ {I : Type 0} (e : ℕ) (q : I → ℕ) (ps : I → List (ℕ × ℕ)) w
       product-apart A (q v) x p (λ d. omega (arith, f .0, f .1, r .0)) (λ d. omega (arith, f .0, f .1, r .0))
 
   -- each result cell has its block's sum added
-  pub blocks-run : (vs : List I) (A : List ℕ) → List·Nodup vs → Clear (length A) vs → (v : I) → List·Memᴰ v vs → getD (run (blocks vs) A) (q v) 0 ≡ getD A (q v) 0 + sumOver (ps v) (product A)
-  unfolding run flatMap
+  pub blocks-run : (vs : List I) (A : List ℕ) → List·Nodup vs → Clear (length A) vs → (v : I) → List·Memᴰ v vs → getD (leave (blocks vs) A) (q v) 0 ≡ getD A (q v) 0 + sumOver (ps v) (product A)
+  unfolding leave flatMap
   blocks-run [] A d c v m = absurd (List·Memᴰ·not-nil m)
   blocks-run (w ∷ vs) A d c v m =
       let x = getD A (q w) 0 + sumOver (ps w) (product A) in
       let B = set A (q w) x in
       let h = c .results w (List·Memᴰ·head refl) .1 in
       let cB : Clear (length B) vs = subst (λ n. Clear n vs) (sym (length-set A (q w) x)) (clear-tail c) in
-      ap (λ C. getD C (q v) 0) (run-append (block (q w) (ps w)) (blocks vs) A ∙ ap (run (blocks vs)) (block-run (q w) (ps w) A h (clear-apart c)))
+      ap (λ C. getD C (q v) 0) (leave-append (block (q w) (ps w)) (blocks vs) A ∙ ap (leave (blocks vs)) (block-run (q w) (ps w) A h (clear-apart c)))
       ∙ by (List·Memᴰ·cases-cons m) cB h (blocks-run vs B (nodup-tail d) cB v)
     where
       x : ℕ
@@ -162,10 +158,10 @@ module _ {I : Type 0} (e : ℕ) (q : I → ℕ) (ps : I → List (ℕ × ℕ)) w
       B : List ℕ
       B = set A (q w) x
 
-      by : (v ≡ w) ⊎ List·Memᴰ v vs → Clear (length B) vs → q w < length A → (List·Memᴰ v vs → getD (run (blocks vs) B) (q v) 0 ≡ getD B (q v) 0 + sumOver (ps v) (product B))
-          → getD (run (blocks vs) B) (q v) 0 ≡ getD A (q v) 0 + sumOver (ps v) (product A)
+      by : (v ≡ w) ⊎ List·Memᴰ v vs → Clear (length B) vs → q w < length A → (List·Memᴰ v vs → getD (leave (blocks vs) B) (q v) 0 ≡ getD B (q v) 0 + sumOver (ps v) (product B))
+          → getD (leave (blocks vs) B) (q v) 0 ≡ getD A (q v) 0 + sumOver (ps v) (product A)
       by (inl s) cB h k =
-          subst (λ u. getD (run (blocks vs) B) (q u) 0 ≡ getD A (q u) 0 + sumOver (ps u) (product A)) (sym s)
+          subst (λ u. getD (leave (blocks vs) B) (q u) 0 ≡ getD A (q u) 0 + sumOver (ps u) (product A)) (sym s)
           (blocks-same vs B cB (q w) (λ u n z. nodup-head d (Memᴰ·cast (c .differ w u (List·Memᴰ·head refl) (List·Memᴰ·tail n) z) n))
           ∙ getD-set-same A (q w) x 0 h)
       by (inr n) cB h k =

@@ -9,16 +9,12 @@ use native.Mathlib.Omega.{arith}
 use native.Mathlib.Nat.{add-zero}
 use lib.Dec.{ltb, leb}
 use lib.ListN.{length, getD, take, drop, length-take, length-drop, drop-of-length-le}
-use lib.Seq.{drop-drop, drop-length}
-use borrow.Author.Tests.{leb-true, leb-false, ltb-true, ltb-false}
+use lib.Seq.{drop-drop, drop-length, drop-cons, getD-take, getD-drop}
+use borrow.Author.Tests.{leb-true, leb-false, ltb-true, ltb-false, lt-ltb, le-ltb}
 use Rattle.sums.specs.Choice.{choose}
 use Rattle.network.specs.Pairs.{Pair}
-use Rattle.network.specs.Run.{sumAt, add, Progress, spend}
-use Rattle.network.proofs.RunLaws.{run, trace, length-add, add-other}
-
--- stands for a pair past the end
-abbrev pub nothing : Pair
-nothing = record { left = 0; right = 0; result = 0 }
+use Rattle.network.specs.Run.{sumAt, add, leave, noPair, Progress, spend}
+use Rattle.network.proofs.RunLaws.{trace, length-add, add-other}
 
 pub spend-append : (m : ℕ) (ps qs : List Pair) (done : ℕ) (A : List ℕ)
     → spend m (ps ++ qs) done A ≡ choose (spend m ps done A .stopped) (λ u. spend m ps done A) (λ u. spend m qs (spend m ps done A .done) (spend m ps done A .area))
@@ -83,13 +79,13 @@ pub record Went (m : ℕ) (ps : List Pair) (done : ℕ) (A : List ℕ) : Type 0 
   pub leads : steps ≡ lead m (trace ps A)
   pub few : steps ≤ length ps
   pub number : spend m ps done A .done ≡ done + steps
-  pub left : spend m ps done A .area ≡ run (take steps ps) A
+  pub left : spend m ps done A .area ≡ leave (take steps ps) A
   pub onward : spend m ps done A .stopped ≡ false → steps ≡ length ps
-  pub reached : spend m ps done A .stopped ≡ true → (steps < length ps) × (m ≤ sumAt (spend m ps done A .area) (getD ps steps nothing))
+  pub reached : spend m ps done A .stopped ≡ true → (steps < length ps) × (m ≤ sumAt (spend m ps done A .area) (getD ps steps noPair))
 
 -- a run does the leading pairs, and only a pair that would reach the limit stops it
 pub went : (m : ℕ) (ps : List Pair) (done : ℕ) (A : List ℕ) → Went m ps done A
-unfolding spend run trace lead
+unfolding spend leave trace lead
 went m [] done A = record { steps = 0; leads = refl; few = omega arith; number = omega arith; left = refl; onward = λ e. refl; reached = λ e. absurd (true≢false (sym e)) }
 went m (p ∷ ps) done A = by (ltb (sumAt A p) m) refl (went m ps (suc done) (add A p))
   where
@@ -106,7 +102,7 @@ went m (p ∷ ps) done A = by (ltb (sumAt A p) m) refl (went m ps (suc done) (ad
           number = ap (λ x. x .done) d ∙ w .number ∙ omega arith;
           left = ap (λ x. x .area) d ∙ w .left;
           onward = λ s. ap suc (w .onward (sym (ap (λ x. x .stopped) d) ∙ s));
-          reached = λ s. let r = w .reached (sym (ap (λ x. x .stopped) d) ∙ s) in (omega (arith, r .0), subst (λ x. m ≤ sumAt (x .area) (getD ps (w .steps) nothing)) (sym d) (r .1));
+          reached = λ s. let r = w .reached (sym (ap (λ x. x .stopped) d) ∙ s) in (omega (arith, r .0), subst (λ x. m ≤ sumAt (x .area) (getD ps (w .steps) noPair)) (sym d) (r .1));
         }
     by false e w =
         let d : spend m (p ∷ ps) done A ≡ record { done = done; area = A; stopped = true } = ap here e in
@@ -130,6 +126,44 @@ lead-below m (y ∷ ys) e x k = by (ltb y m) refl e (List·Memᴰ·cases-cons k)
     by true t d (inl s) f = omega (arith, ltb-true y m t)
     by true t d (inr n) f = f (omega arith) x n
     by false t d o f = absurd (omega arith)
+
+-- where steps pairs lead below m, the sum of each of them is below m
+pub trace-is : (ps : List Pair) (A : List ℕ) (i : ℕ) (d : Pair) → i < length ps → getD (trace ps A) i 0 ≡ sumAt (leave (take i ps) A) (getD ps i d)
+unfolding leave trace
+trace-is [] A i d h = absurd (omega arith)
+trace-is (p ∷ ps) A zero d h = refl
+trace-is (p ∷ ps) A (suc i) d h = trace-is ps (add A p) i d (omega arith)
+
+pub lead-at : (m : ℕ) (xs : List ℕ) (i : ℕ) → i < lead m xs → getD xs i 0 < m
+unfolding lead
+lead-at m [] i h = absurd (omega arith)
+lead-at m (x ∷ xs) i h = by (ltb x m) refl i h (lead-at m xs)
+  where
+    by : (t : Bool) → ltb x m ≡ t → (i : ℕ) → i < choose t (λ u. suc (lead m xs)) (λ u. 0) → ((i : ℕ) → i < lead m xs → getD xs i 0 < m) → getD (x ∷ xs) i 0 < m
+    by true e zero k f = ltb-true x m e
+    by true e (suc i) k f = f i (omega arith)
+    by false e i k f = absurd (omega arith)
+
+-- a run that a pair has stopped, gone on with: the same pair stops it again at once, unless there is no budget for it
+pub spend-again : (m : ℕ) (l : List Pair) (done b n : ℕ) (A : List ℕ) → spend m (take b (drop done l)) done A .stopped ≡ true
+    → (let p = spend m (take b (drop done l)) done A in
+    spend m (take n (drop (p .done) l)) (p .done) (p .area) ≡ record { done = p .done; area = p .area; stopped = ltb 0 n })
+unfolding spend
+spend-again m l done b zero A e = ap (λ t. record { done = spend m (take b (drop done l)) done A .done; area = spend m (take b (drop done l)) done A .area; stopped = t }) (sym (le-ltb 0 0 (omega arith)))
+spend-again m l done b (suc n) A e =
+    let p = spend m (take b (drop done l)) done A in
+    let w = went m (take b (drop done l)) done A in
+    let r = w .reached e in
+    let near : w .steps < length (drop done l) = omega (arith, r .0, length-take b (drop done l)) in
+    let inside : p .done < length l = omega (arith, w .number, near, length-drop done l) in
+    let next = getD l (p .done) noPair in
+    let same : next ≡ getD (take b (drop done l)) (w .steps) noPair =
+    ap (λ i. getD l i noPair) (w .number)
+    ∙ sym (getD-take b (drop done l) (w .steps) noPair (omega (arith, r .0, length-take b (drop done l))) ∙ getD-drop done l (w .steps) noPair) in
+    let high : ltb (sumAt (p .area) next) m ≡ false = le-ltb (sumAt (p .area) next) m (subst (λ x. m ≤ sumAt (p .area) x) (sym same) (r .1)) in
+    ap (λ ps. spend m (take (suc n) ps) (p .done) (p .area)) (drop-cons l (p .done) noPair inside)
+    ∙ ap (λ t. choose t (λ u. spend m (take n (drop (suc (p .done)) l)) (suc (p .done)) (add (p .area) next)) (λ u. record { done = p .done; area = p .area; stopped = true })) high
+    ∙ ap (λ t. record { done = p .done; area = p .area; stopped = t }) (sym (lt-ltb 0 (suc n) (omega arith)))
 
 -- a cell that is no pair's result stays
 pub spend-past : (m : ℕ) (ps : List Pair) (done : ℕ) (A : List ℕ) (i : ℕ) → ((p : Pair) → List·Memᴰ p ps → i ≡ p .result → ⊥) → getD (spend m ps done A .area) i 0 ≡ getD A i 0

@@ -15,11 +15,12 @@ use Rattle.network.specs.Centre.{Route, Centre, routesOf}
 use Rattle.network.specs.Coverage.{Tree, leaf, join, under, coverages}
 use Rattle.network.specs.Cells.{indices, place, spansAt, allCells, base, cellOf, startCell, centreBy}
 use Rattle.network.specs.Pairs.{Pair, indexPairs, ownPairs, listed}
+use Rattle.network.specs.Run.{leave}
 use Rattle.network.proofs.ValueLaws.{G-one}
 use Rattle.network.proofs.CoverageLaws.{Parted, parted-left, parted-right, meets}
 use Rattle.network.proofs.CellLaws.{Inside, indices-out, indices-in, indices-nodup, inside-length, place-same}
 use Rattle.network.proofs.PairLaws.{pairs-inside}
-use Rattle.network.proofs.RunLaws.{run, run-append, trace, trace-append, length-run, block, product, running, blocks, Clear, blocks-same, blocks-run, blocks-trace}
+use Rattle.network.proofs.RunLaws.{leave-append, trace, trace-append, length-leave, block, product, running, blocks, Clear, blocks-same, blocks-run, blocks-trace}
 use Rattle.network.proofs.NodeLaws.{AllWide, valueUnder, join-cell, coverages-length, spans-length}
 use Rattle.network.proofs.AreaLaws.{Holds, Laid, laid-own, laid-agree, cell-in, base-join, base-room}
 
@@ -83,12 +84,12 @@ module _ (centres : List Centre) (windows : List ℕ) (wide : AllWide (length wi
           ∙ blocks-trace (base routes windows (join l r) start) (cellOf routes windows (join l r) start) theirs (indices (spansAt routes windows (join l r))) A (indices-nodup (spansAt routes windows (join l r))) (own-clear (length A) room)
           ∙ flat-cong (indices (spansAt routes windows (join l r))) _ _ (λ v m. λ i. running (zeros v (indices-out (spansAt routes windows (join l r)) v m) i) (factors-are v m i))
 
-      pub own-holds : Holds routes windows nodeValue (run (ownPairs routes windows l r start) A) (join l r) start
+      pub own-holds : Holds routes windows nodeValue (leave (ownPairs routes windows l r start) A) (join l r) start
       unfolding products
       own-holds v i =
           let vs = indices (spansAt routes windows (join l r)) in
           let m = indices-in i in
-          ap (λ ps. getD (run ps A) (cellOf routes windows (join l r) start v) 0) own-blocks
+          ap (λ ps. getD (leave ps A) (cellOf routes windows (join l r) start v) 0) own-blocks
           ∙ blocks-run (base routes windows (join l r) start) (cellOf routes windows (join l r) start) theirs vs A (indices-nodup (spansAt routes windows (join l r))) (own-clear (length A) room) v m
           ∙ ap (λ n. n + sumOver (theirs v) (product A)) (zeros v i)
           ∙ zero-add (sumOver (theirs v) (product A))
@@ -97,9 +98,9 @@ module _ (centres : List Centre) (windows : List ℕ) (wide : AllWide (length wi
           ∙ sumOver-map (λ p. nodeValue l (p .0) * nodeValue r (p .1)) (indexPairs (coverages routes (length windows) l) (coverages routes (length windows) r) v) (λ n. n)
           ∙ join-cell centres (length windows) wide l r rest parted v (inside-length i ∙ spans-length routes windows (join l r))
 
-      pub own-same : (i : ℕ) → (i < base routes windows (join l r) start) ⊎ (start + allCells routes windows (join l r) ≤ i) → getD (run (ownPairs routes windows l r start) A) i 0 ≡ getD A i 0
+      pub own-same : (i : ℕ) → (i < base routes windows (join l r) start) ⊎ (start + allCells routes windows (join l r) ≤ i) → getD (leave (ownPairs routes windows l r start) A) i 0 ≡ getD A i 0
       own-same i h =
-          ap (λ ps. getD (run ps A) i 0) own-blocks
+          ap (λ ps. getD (leave ps A) i 0) own-blocks
           ∙ blocks-same (base routes windows (join l r) start) (cellOf routes windows (join l r) start) theirs (indices (spansAt routes windows (join l r))) A (own-clear (length A) room) i
           (λ v m e. out v h (cell-in routes windows (join l r) start v (indices-out (spansAt routes windows (join l r)) v m)) e)
         where
@@ -112,12 +113,12 @@ module _ (centres : List Centre) (windows : List ℕ) (wide : AllWide (length wi
 
   -- what the listed pairs of a subtree do to an area
   pub record Ran (t : Tree) (start : ℕ) (A : List ℕ) : Type 0 where
-    pub same : (i : ℕ) → (i < start) ⊎ (start + allCells routes windows t ≤ i) → getD (run (listed routes windows t start) A) i 0 ≡ getD A i 0
-    pub laid : Laid routes windows nodeValue (run (listed routes windows t start) A) t start
+    pub same : (i : ℕ) → (i < start) ⊎ (start + allCells routes windows t ≤ i) → getD (leave (listed routes windows t start) A) i 0 ≡ getD A i 0
+    pub laid : Laid routes windows nodeValue (leave (listed routes windows t start) A) t start
     pub traced : trace (listed routes windows t start) A ≡ ideal t
 
   pub run-tree : (t : Tree) (rest : List ℕ) → Parted routes (under t) rest → (start : ℕ) (A : List ℕ) → start + allCells routes windows t ≤ length A → Laid routes windows (startCell centres) A t start → Ran t start A
-  unfolding listed run trace ideal startCell under base
+  unfolding listed leave trace ideal startCell under base
   run-tree (leaf c) rest parted start A room h = record { same = λ i o. refl; laid = λ v i. h v i ∙ sym (G-one (centreBy centres c) v); traced = refl }
   run-tree (join l r) rest parted start A room h =
       let second = start + allCells routes windows l in
@@ -127,12 +128,12 @@ module _ (centres : List Centre) (windows : List ℕ) (wide : AllWide (length wi
       let R = listed routes windows r second in
       let O = ownPairs routes windows l r start in
       let roomL : start + allCells routes windows l ≤ length A = omega (arith, whole) in
-      let B = run L A in
+      let B = leave L A in
       let ranL = run-tree l (under r ++ rest) pl start A roomL (h .0) in
-      let roomR : second + allCells routes windows r ≤ length B = omega (arith, whole, length-run L A) in
-      let C = run R B in
+      let roomR : second + allCells routes windows r ≤ length B = omega (arith, whole, length-leave L A) in
+      let C = leave R B in
       let ranR = run-tree r (under l ++ rest) pr second B roomR (laid-agree routes windows (startCell centres) A B r second (λ i a b. ranL .same i (inr a)) (h .1)) in
-      let room3 : start + allCells routes windows (join l r) ≤ length C = omega (arith, length-run R B, length-run L A) in
+      let room3 : start + allCells routes windows (join l r) ≤ length C = omega (arith, length-leave R B, length-leave L A) in
       let left = laid-agree routes windows nodeValue B C l start (λ i a b. ranR .same i (inl b)) (ranL .laid) in
       let zeros : Holds routes windows (λ t v. 0) C (join l r) start = λ v i.
       let c = cell-in routes windows (join l r) start v i in
@@ -140,8 +141,8 @@ module _ (centres : List Centre) (windows : List ℕ) (wide : AllWide (length wi
       ranR .same (cellOf routes windows (join l r) start v) (inr (omega arith)) ∙ ranL .same (cellOf routes windows (join l r) start v) (inr (omega arith)) ∙ h .2 v i in
       let ownL = laid-own routes windows nodeValue C l start left in
       let ownR = laid-own routes windows nodeValue C r second (ranR .laid) in
-      let D = run O C in
-      let end : run (L ++ (R ++ O)) A ≡ D = run-append L (R ++ O) A ∙ run-append R O B in
+      let D = leave O C in
+      let end : leave (L ++ (R ++ O)) A ≡ D = leave-append L (R ++ O) A ∙ leave-append R O B in
       let same3 = own-same l r rest parted start C room3 ownL ownR zeros in
       record {
         same = λ i o. ap (λ E. getD E i 0) end ∙ same3 i (inside i o) ∙ ranR .same i (beyondR i o) ∙ ranL .same i (beyondL i o);

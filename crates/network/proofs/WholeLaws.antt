@@ -21,12 +21,12 @@ use Rattle.network.specs.States.{value}
 use Rattle.network.specs.Coverage.{Coverage, finished, partial, absent, Tree, leaf, join, under, visits, coverageBy, coverage, coverages}
 use Rattle.network.specs.Cells.{span, size, cells, stride, strides, along, place, indices, spansAt, allCells, base, cellOf, spread, startCell, centreBy, filled}
 use Rattle.network.specs.Pairs.{Pair, indexPairs, listed}
-use Rattle.network.specs.Run.{sumAt, add}
+use Rattle.network.specs.Run.{sumAt, add, leave}
 use Rattle.network.proofs.ValueLaws.{G, G-one, G-perm, value-G}
 use Rattle.network.proofs.CoverageLaws.{Parted, parted-left, parted-right, coverage-parts}
 use Rattle.network.proofs.CellLaws.{In, Inside, inside-length, indices-out}
 use Rattle.network.proofs.CoverLaws.{AllOn}
-use Rattle.network.proofs.RunLaws.{run, trace, running, length-add}
+use Rattle.network.proofs.RunLaws.{trace, running, length-add}
 use Rattle.network.proofs.NodeLaws.{by-number, AllWide, pickedFrom, join-cell, spans-length}
 use Rattle.network.proofs.BoundLaws.{AllVisited, node-bound}
 use Rattle.network.proofs.AreaLaws.{Laid, laid-own, base-is, cells-some, spread-laid, length-spread}
@@ -53,13 +53,13 @@ one-cell A p i = at (ℕ-discrete i (p .result)) (decLt (p .result) (length A))
     at (yes e) (no h) = inl (ap (λ B. getD B i 0) (set-out A (p .result) (sumAt A p) (omega arith)))
 
 -- after a run a cell is as it was, or is a sum that some pair formed
-pub cell-or-sum : (ps : List Pair) (A : List ℕ) (i : ℕ) → (getD (run ps A) i 0 ≡ getD A i 0) ⊎ List·Memᴰ (getD (run ps A) i 0) (trace ps A)
-unfolding run trace
+pub cell-or-sum : (ps : List Pair) (A : List ℕ) (i : ℕ) → (getD (leave ps A) i 0 ≡ getD A i 0) ⊎ List·Memᴰ (getD (leave ps A) i 0) (trace ps A)
+unfolding leave trace
 cell-or-sum [] A i = inl refl
 cell-or-sum (p ∷ ps) A i = by (cell-or-sum ps (add A p) i) (one-cell A p i)
   where
-    by : (getD (run ps (add A p)) i 0 ≡ getD (add A p) i 0) ⊎ List·Memᴰ (getD (run ps (add A p)) i 0) (trace ps (add A p)) → (getD (add A p) i 0 ≡ getD A i 0) ⊎ (getD (add A p) i 0 ≡ sumAt A p)
-        → (getD (run ps (add A p)) i 0 ≡ getD A i 0) ⊎ List·Memᴰ (getD (run ps (add A p)) i 0) (sumAt A p ∷ trace ps (add A p))
+    by : (getD (leave ps (add A p)) i 0 ≡ getD (add A p) i 0) ⊎ List·Memᴰ (getD (leave ps (add A p)) i 0) (trace ps (add A p)) → (getD (add A p) i 0 ≡ getD A i 0) ⊎ (getD (add A p) i 0 ≡ sumAt A p)
+        → (getD (leave ps (add A p)) i 0 ≡ getD A i 0) ⊎ List·Memᴰ (getD (leave ps (add A p)) i 0) (sumAt A p ∷ trace ps (add A p))
     by (inr m) k = inr (List·Memᴰ·tail m)
     by (inl e) (inl f) = inl (e ∙ f)
     by (inl e) (inr f) = inr (List·Memᴰ·head (e ∙ f))
@@ -170,10 +170,10 @@ module _ (centres : List Centre) (windows : List ℕ) (wide : AllWide (length wi
       ran = run-tree centres windows wide t [] all-under 0 A (omega arith) laid
 
       -- after all pairs
-      pub whole-value : getD (run (listed routes windows t 0) A) (allCells routes windows t - 1) 0 ≡ value centres windows
+      pub whole-value : getD (leave (listed routes windows t 0) A) (allCells routes windows t - 1) 0 ≡ value centres windows
       whole-value =
-          ap (λ i. getD (run (listed routes windows t 0) A) i 0) (sym last-cell)
-          ∙ laid-own routes windows (nodeValue centres windows wide) (run (listed routes windows t 0) A) t 0 (ran .laid) windows (top .0)
+          ap (λ i. getD (leave (listed routes windows t 0) A) i 0) (sym last-cell)
+          ∙ laid-own routes windows (nodeValue centres windows wide) (leave (listed routes windows t 0) A) t 0 (ran .laid) windows (top .0)
           ∙ top-value
 
       -- on the way

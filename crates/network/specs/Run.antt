@@ -14,6 +14,15 @@ sumAt area p = getD area (p .result) 0 + getD area (p .left) 0 * getD area (p .r
 unfoldable pub add : List ℕ → Pair → List ℕ
 add area p = set area (p .result) (sumAt area p)
 
+-- what pairs leave in an area, one after the other, with no limit
+unfoldable pub leave : List Pair → List ℕ → List ℕ
+leave [] area = area
+leave (p ∷ ps) area = leave ps (add area p)
+
+-- stands where a list of pairs has none
+abbrev pub noPair : Pair
+noPair = record { left = 0; right = 0; result = 0 }
+
 -- the pairs done in all, what they left, and whether a pair was stopped
 pub record Progress : Type 0 where
   pub done : ℕ

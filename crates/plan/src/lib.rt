@@ -6,8 +6,7 @@ mod nodes; // nodes.rt: one node of the table
 pub mod tables; // tables.rt: the table, node by node
 pub mod windows; // windows.rt: the windows of a run
 
-ghost use mathlib.Core.Path.{_≡_};
-ghost use Rattle.calls.specs.Plan.{plan};
+ghost use Rattle.calls.specs.Promises.{PlanAllows};
 use crate::asking::prepare;
 use calls::PlanAnswer;
 use modelfile::Model;
@@ -77,7 +76,7 @@ pub struct Run {
 
 // "Plan returns cells and pairs."
 pub fn plan(file: &[u8], lower: u64) -> PlanAnswer
-    ensures { λ r. ⌜ r ≡ plan (now (file .entry)) lower ⌝ }
+    ensures { λ r. ⌜ PlanAllows (now (file .entry)) lower r ⌝ }
 {
     let run = prepare(file, lower);
     let asked = run.asked;

@@ -21,7 +21,7 @@ use Rattle.arith.proofs.CappedLaws.{capped-exact}
 use Rattle.calls.specs.Asked.{refused, granted, pickAsked, lessOne, lowering, cellsIn}
 use Rattle.calls.specs.Sheet.{numerator}
 use Rattle.calls.proofs.FileLaws.{length-windows}
-use Rattle.calls.proofs.Demand2.{lowering-value}
+use Rattle.calls.proofs.GrantedLaws.{lowering-value}
 use Rattle.plan.specs.Lowered.{askedOf, Lowered}
 use Rattle.plan.specs.declared.Asked.{Asked}
 use Rattle.plan.specs.declared.Lowering.{Lowering}

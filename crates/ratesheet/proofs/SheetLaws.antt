@@ -20,7 +20,8 @@ use Rattle.arith.specs.declared.Fits.{Fits}
 use Rattle.arith.proofs.CappedLaws.{exact-says, large-says}
 use Rattle.calls.specs.Asked.{ask, lowering, cellsIn, pairsIn}
 use Rattle.calls.specs.Start.{noRoom}
-use Rattle.calls.specs.Sheet.{fullValue, busiest, noSheet, sheetOf, cleared, sheetIn, sheet}
+use Rattle.calls.specs.Answers.{noSheet}
+use Rattle.calls.specs.Sheet.{fullValue, busiest, fullSheet, sheetOf, cleared, sheetIn, sheet}
 use Rattle.calls.specs.declared.SheetAnswer.{SheetAnswer}
 use Rattle.calls.proofs.ExactLaws.{room-cells}
 use Rattle.plan.specs.Table.{Tabled}
@@ -38,7 +39,7 @@ module _ (m : Model) (n : AllNumerators) (w : Numbered m n) where
   answer-large e = rw (sym (w .large-is) ∙ e)
 
   pub answer-made : (full : Full) (b : ℕ) → full ≡ fullOf m → n .large ≡ false → b ≡ busiest m → record { refusal = 0; place = 0; value = full .value; pairs = full .pairs; cells = full .cells; chains = m .chains; numerators = n .numbers; busiest = b } ≡ sheetBelow m
-  unfolding sheetBelow fullOf
+  unfolding sheetBelow fullSheet fullOf
   answer-made full b d e f = rw (sym (w .large-is) ∙ e, d, w .numbers-are e, f)
 
 pub full-is : (m : Model) {v p c : ℕ} → v ≡ fullValue m → p ≡ pairsIn m (windowsOf m) → c ≡ cellsIn m (windowsOf m) → record { value = v; pairs = p; cells = c } ≡ fullOf m

@@ -6,7 +6,8 @@ use Rattle.modelfile.specs.Network.{windowsOf}
 use Rattle.modelfile.specs.declared.Model.{Model}
 use Rattle.calls.specs.Asked.{cellsIn, pairsIn}
 use Rattle.calls.specs.Start.{tooLarge}
-use Rattle.calls.specs.Sheet.{fullValue, numerators, busiest, noSheet}
+use Rattle.calls.specs.Answers.{noSheet}
+use Rattle.calls.specs.Sheet.{fullValue, numerators, fullSheet}
 use Rattle.calls.specs.declared.SheetAnswer.{SheetAnswer}
 use Rattle.ratesheet.specs.declared.Full.{Full}
 
@@ -17,5 +18,4 @@ fullOf m = record { value = fullValue m; pairs = pairsIn m (windowsOf m); cells 
 -- the sheet where G(N) is below 2^64
 unfoldable pub sheetBelow : Model → SheetAnswer
 sheetBelow m =
-    choose (some tooLarge (numerators m)) (λ u. noSheet 15 0) λ u.
-    record { refusal = 0; place = 0; value = fullValue m; pairs = pairsIn m (windowsOf m); cells = cellsIn m (windowsOf m); chains = m .chains; numerators = numerators m; busiest = busiest m }
+    choose (some tooLarge (numerators m)) (λ u. noSheet 15 0) (λ u. fullSheet m)

@@ -1,7 +1,7 @@
 // The answer from the numbers, and what a refusal returns.
 ghost use mathlib.Core.Path.{_≡_};
 ghost use Rattle.modelfile.proofs.Guaranteed.{Guaranteed};
-ghost use Rattle.calls.specs.Sheet.{noSheet};
+ghost use Rattle.calls.specs.Answers.{noSheet};
 ghost use Rattle.rates.specs.Steps.{Numbered};
 ghost use Rattle.ratesheet.specs.Steps.{fullOf, sheetBelow};
 use crate::Full;

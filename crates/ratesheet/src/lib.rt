@@ -7,7 +7,8 @@ ghost use lib.ListN.{length};
 ghost use Rattle.modelfile.specs.Network.{windowsOf};
 ghost use Rattle.modelfile.proofs.Guaranteed.{Guaranteed};
 ghost use Rattle.calls.specs.Asked.{cellsIn, pairsIn};
-ghost use Rattle.calls.specs.Sheet.{sheetIn, sheetOf, sheet};
+ghost use Rattle.calls.specs.Sheet.{sheetIn, sheetOf};
+ghost use Rattle.calls.specs.Promises.{SheetAllows};
 ghost use Rattle.rates.specs.Steps.{Kept};
 use crate::answers::answer;
 use crate::answers::no_sheet;
@@ -70,8 +71,7 @@ fn run_and_clear(m: Model, area: &mut [u64]) -> SheetAnswer
 
 // "Afterwards the full model's cells are all 0." Cells past them are never written.
 pub fn sheet(file: &[u8], area: &mut [u64]) -> SheetAnswer
-    ensures { λ r. ⌜ r ≡ sheet (now (file .entry)) (now (area .entry)) .answer ⌝ }
-    ensures { λ _. ⌜ now (area .exit) ≡ sheet (now (file .entry)) (now (area .entry)) .area ⌝ }
+    ensures { λ r. ⌜ SheetAllows (now (file .entry)) (now (area .entry)) r (now (area .exit)) ⌝ }
 {
     let reading = reader::read_file(file);
     let verdict = reading.verdict;

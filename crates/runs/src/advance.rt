@@ -4,7 +4,8 @@ ghost use Prim.Native.Nat.{_-_, _≤_};
 ghost use lib.Dec.{eqb};
 ghost use lib.ListN.{length, getD};
 ghost use Rattle.sums.specs.Choice.{choose};
-ghost use Rattle.calls.specs.Advance.{advanceIn, advance};
+ghost use Rattle.calls.specs.Advance.{advanceIn};
+ghost use Rattle.calls.specs.Promises.{AdvanceAllows};
 ghost use Rattle.plan.specs.Table.{windowsIn};
 ghost use Rattle.plan.specs.Asking.{Prepared};
 use crate::last_cell;
@@ -70,8 +71,7 @@ fn advance_in(
 
 // "It adds pairs to whatever the area holds"; what it refuses it leaves untouched.
 pub fn advance(file: &[u8], lower: u64, done: u64, budget: u64, area: &mut [u64]) -> AdvanceAnswer
-    ensures { λ r. ⌜ r ≡ advance (now (file .entry)) lower done budget (now (area .entry)) .answer ⌝ }
-    ensures { λ _. ⌜ now (area .exit) ≡ advance (now (file .entry)) lower done budget (now (area .entry)) .area ⌝ }
+    ensures { λ r. ⌜ AdvanceAllows (now (file .entry)) lower done budget (now (area .entry)) r (now (area .exit)) ⌝ }
 {
     let run = prepare(file, lower);
     let asked = run.asked;

@@ -7,7 +7,8 @@ ghost use mathlib.Core.Bool.{_||_};
 ghost use Prim.Native.Nat.{_-_, _≤_};
 ghost use lib.Dec.{ltb};
 ghost use lib.ListN.{length, getD};
-ghost use Rattle.calls.specs.Start.{startIn, start};
+ghost use Rattle.calls.specs.Start.{startIn};
+ghost use Rattle.calls.specs.Promises.{StartAllows};
 ghost use Rattle.plan.specs.Table.{windowsIn};
 ghost use Rattle.plan.specs.Asking.{Prepared};
 use calls::StartAnswer;
@@ -60,8 +61,7 @@ fn start_in(m: Model, windows: [usize; 8], t: Table, area: &mut [u64]) -> StartA
 
 // "A start writes each leaf's weights and sets every cell of a join to 0"; what it refuses it leaves untouched.
 pub fn start(file: &[u8], lower: u64, area: &mut [u64]) -> StartAnswer
-    ensures { λ r. ⌜ r ≡ start (now (file .entry)) lower (now (area .entry)) .answer ⌝ }
-    ensures { λ _. ⌜ now (area .exit) ≡ start (now (file .entry)) lower (now (area .entry)) .area ⌝ }
+    ensures { λ r. ⌜ StartAllows (now (file .entry)) lower (now (area .entry)) r (now (area .exit)) ⌝ }
 {
     let run = prepare(file, lower);
     let asked = run.asked;

@@ -1,6 +1,6 @@
 -- `fenmantle_advance` meets its contract: the call's answer, case by case, as numbers.
 use Rattle.board.proofs.NumberLaws.{told}
-use Rattle.board.specs.Numbers.{advanceAnswer}
+use Rattle.calls.specs.Answers.{advanceNumbers}
 use borrow.Author.Needs.{needs}
 use Rattle.board.proofs.fenmantle_advance.Statement.{statement}
 use Rattle.board.proofs.fenmantle_advance.Tie as tie
@@ -21,22 +21,22 @@ same-length : tie.Need-same-length
 same-length c = search needs
 
 returns : tie.Need-returns
-unfolding advanceAnswer
-returns c = (told advanceAnswer (c .before .before .before .before .before .advance .ensures .0) (c .before .done .given .1), c .before .before .before .before .before .advance .ensures .1)
+unfolding advanceNumbers
+returns c = (told advanceNumbers (c .before .before .before .before .before .advance .ensures .0) (c .before .done .given .1), c .before .before .before .before .before .advance .ensures .1)
 
 same-length-2 : tie.Need-same-length-2
 same-length-2 c = search needs
 
 returns-2 : tie.Need-returns-2
-unfolding advanceAnswer
-returns-2 c = (told advanceAnswer (c .before .before .before .before .before .advance .ensures .0) (c .before .done2 .given .1), c .before .before .before .before .before .advance .ensures .1)
+unfolding advanceNumbers
+returns-2 c = (told advanceNumbers (c .before .before .before .before .before .advance .ensures .0) (c .before .done2 .given .1), c .before .before .before .before .before .advance .ensures .1)
 
 same-length-3 : tie.Need-same-length-3
 same-length-3 c = search needs
 
 returns-3 : tie.Need-returns-3
-unfolding advanceAnswer
-returns-3 c = (told advanceAnswer (c .before .before .before .before .before .advance .ensures .0) (c .before .number .given .1), c .before .before .before .before .before .advance .ensures .1)
+unfolding advanceNumbers
+returns-3 c = (told advanceNumbers (c .before .before .before .before .before .advance .ensures .0) (c .before .number .given .1), c .before .before .before .before .before .advance .ensures .1)
 
 pub fenmantle-advance-spec : {M : Type 1} → statement M
 fenmantle-advance-spec =

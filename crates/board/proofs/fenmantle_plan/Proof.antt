@@ -1,6 +1,6 @@
 -- `fenmantle_plan` meets its contract: the call's answer, case by case, as numbers.
 use Rattle.board.proofs.NumberLaws.{told}
-use Rattle.board.specs.Numbers.{planAnswer}
+use Rattle.calls.specs.Answers.{planNumbers}
 use borrow.Author.Needs.{needs}
 use Rattle.board.proofs.fenmantle_plan.Statement.{statement}
 use Rattle.board.proofs.fenmantle_plan.Tie as tie
@@ -15,12 +15,12 @@ enum-known-number : tie.Need-enum-known-number
 enum-known-number c = search needs
 
 returns : tie.Need-returns
-unfolding planAnswer
-returns c = told planAnswer (c .before .before .before .plan .ensures) (c .before .cells .given .1)
+unfolding planNumbers
+returns c = told planNumbers (c .before .before .before .plan .ensures) (c .before .cells .given .1)
 
 returns-2 : tie.Need-returns-2
-unfolding planAnswer
-returns-2 c = told planAnswer (c .before .before .before .plan .ensures) (c .before .number .given .1)
+unfolding planNumbers
+returns-2 c = told planNumbers (c .before .before .before .plan .ensures) (c .before .number .given .1)
 
 pub fenmantle-plan-spec : {M : Type 1} → statement M
 fenmantle-plan-spec =

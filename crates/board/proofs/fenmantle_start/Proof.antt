@@ -1,6 +1,6 @@
 -- `fenmantle_start` meets its contract: the call's answer, case by case, as numbers.
 use Rattle.board.proofs.NumberLaws.{told}
-use Rattle.board.specs.Numbers.{startAnswer}
+use Rattle.calls.specs.Answers.{startNumbers}
 use borrow.Author.Needs.{needs}
 use Rattle.board.proofs.fenmantle_start.Statement.{statement}
 use Rattle.board.proofs.fenmantle_start.Tie as tie
@@ -18,15 +18,15 @@ same-length : tie.Need-same-length
 same-length c = search needs
 
 returns : tie.Need-returns
-unfolding startAnswer
-returns c = (told startAnswer (c .before .before .before .before .start .ensures .0) (c .enum-told .given .1), c .before .before .before .before .start .ensures .1)
+unfolding startNumbers
+returns c = (told startNumbers (c .before .before .before .before .start .ensures .0) (c .enum-told .given .1), c .before .before .before .before .start .ensures .1)
 
 same-length-2 : tie.Need-same-length-2
 same-length-2 c = search needs
 
 returns-2 : tie.Need-returns-2
-unfolding startAnswer
-returns-2 c = (told startAnswer (c .before .before .before .before .before .start .ensures .0) (c .before .number .given .1), c .before .before .before .before .before .start .ensures .1)
+unfolding startNumbers
+returns-2 c = (told startNumbers (c .before .before .before .before .before .start .ensures .0) (c .before .number .given .1), c .before .before .before .before .before .start .ensures .1)
 
 pub fenmantle-start-spec : {M : Type 1} → statement M
 fenmantle-start-spec =

@@ -1,6 +1,6 @@
 -- `no_sheet` meets its contract: its fields are those of the definition.
 use mathlib.Core.Path.{refl}
-use Rattle.calls.specs.Sheet.{noSheet}
+use Rattle.calls.specs.Answers.{noSheet}
 use Rattle.ratesheet.proofs.answers.no_sheet.Statement.{statement}
 use Rattle.ratesheet.proofs.answers.no_sheet.Tie as tie
 
