@@ -1,5 +1,5 @@
 -- A whole file: a model, or a refusal 1 to 9 with its place; and its tree part.
-use Prim.Native.Nat.{ℕ, zero, suc, _-_}
+use Prim.Native.Nat.{ℕ, zero, suc, _+_, _-_}
 use mathlib.Core.List.{List, [], _∷_}
 use lib.ListN.{length, take, drop}
 use Rattle.modelfile.specs.Model.{emptyModel}
@@ -39,3 +39,17 @@ unfoldable pub treePart : List ℕ → List ℕ
 treePart file =
     let r = readFile file in
     partIf (r .verdict) (take (length file - 1 - r .model .first) (drop (r .model .first) file))
+
+-- where that part begins in the file; the empty part of a refused file at 0
+abbrev pub fromIf : Verdict → ℕ → ℕ
+fromIf Verdict.Accepted first = first
+fromIf (Verdict.Refused number place) first = 0
+
+unfoldable pub partFrom : List ℕ → ℕ
+partFrom file =
+    let r = readFile file in
+    fromIf (r .verdict) (r .model .first)
+
+-- "the caller's own bytes": an address, which is a block of memory and an offset in it, so many bytes on
+abbrev pub bytesOn : ℕ × ℕ → ℕ → ℕ × ℕ
+bytesOn address n = (address .0, n + address .1)
