@@ -6,8 +6,8 @@ use native.Mathlib.Omega.{arith}
 use lib.ListN.{length}
 use Rattle.modelfile.specs.File.{readFile, treePart}
 use Rattle.modelfile.specs.declared.Verdict.{Verdict}
-use Rattle.modelfile.proofs.PartLaws.{first-inside, part-length, part-refused}
-use Rattle.board.specs.Numbers.{partIn, partAnswer}
+use Rattle.modelfile.proofs.PartLaws.{first-inside, part-length, part-refused, from-accepted, from-refused}
+use Rattle.board.specs.Numbers.{partAnswer}
 
 -- what is told of an answer that is known
 pub told : {A B : Type 0} (f : A → B) {x r y : A} → r ≡ x → r ≡ y → f y ≡ f x
@@ -24,12 +24,12 @@ module _ (file part : List ℕ) (e : part ≡ treePart file) where
   refused-none number place v = ap length (e ∙ part-refused file number place v)
 
   pub part-none : length part ≡ 0 → record { from = 0; length = 0 } ≡ partAnswer file
-  unfolding partAnswer partIn
+  unfolding partAnswer
   part-none z = by (readFile file .verdict) refl
     where
-      by : (v : Verdict) → readFile file .verdict ≡ v → record { from = 0; length = 0 } ≡ partIn v (readFile file .model .first) (length (treePart file))
+      by : (v : Verdict) → readFile file .verdict ≡ v → record { from = 0; length = 0 } ≡ partAnswer file
       by Verdict.Accepted d = absurd (omega (arith, z, accepted-some d .1))
-      by (Verdict.Refused number place) d = refl
+      by (Verdict.Refused number place) d = λ i. record { from = sym (from-refused file number place d) i; length = (sym z ∙ ap length e) i }
 
   module _ (some : length part ≡ 0 → ⊥) where
     accepted : readFile file .verdict ≡ Verdict.Accepted
@@ -43,7 +43,7 @@ module _ (file part : List ℕ) (e : part ≡ treePart file) where
     part-inside = omega (arith, accepted-some accepted .0)
 
     pub part-some : record { from = length file - 1 - length part; length = length part } ≡ partAnswer file
-    unfolding partAnswer partIn
+    unfolding partAnswer
     part-some =
         let f : length file - 1 - length part ≡ readFile file .model .first = omega (arith, accepted-some accepted .0) in
-        rw accepted (λ i. record { from = f i; length = length (e i) })
+        λ i. record { from = (f ∙ sym (from-accepted file accepted)) i; length = length (e i) }

@@ -2,8 +2,7 @@
 use Prim.Native.Nat.{ℕ}
 use mathlib.Core.List.{List}
 use lib.ListN.{length}
-use Rattle.modelfile.specs.File.{readFile, treePart}
-use Rattle.modelfile.specs.declared.Verdict.{Verdict}
+use Rattle.modelfile.specs.File.{treePart, partFrom}
 use Rattle.calls.specs.declared.PlanAnswer.{PlanAnswer}
 use Rattle.calls.specs.declared.StartAnswer.{StartAnswer}
 use Rattle.calls.specs.declared.AdvanceAnswer.{AdvanceAnswer}
@@ -30,10 +29,6 @@ advanceAnswer (AdvanceAnswer.Refused number place) = record { refusal = number; 
 unfoldable pub sheetAnswer : SheetAnswer → SheetNumbers
 sheetAnswer s = record { refusal = s .refusal; place = s .place; value = s .value; pairs = s .pairs; cells = s .cells; chains = s .chains; numerators = s .numerators; busiest = s .busiest }
 
--- the tree part begins at the first leaf; 0 and 0 where the file is refused
-unfoldable pub partIn : Verdict → ℕ → ℕ → PartNumbers
-partIn Verdict.Accepted first size = record { from = first; length = size }
-partIn (Verdict.Refused number place) first size = record { from = 0; length = 0 }
-
+-- where the tree part begins and how long it is: 0 and 0 where the file is refused
 unfoldable pub partAnswer : List ℕ → PartNumbers
-partAnswer file = let r = readFile file in partIn (r .verdict) (r .model .first) (length (treePart file))
+partAnswer file = record { from = partFrom file; length = length (treePart file) }

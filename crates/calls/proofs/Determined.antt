@@ -1,9 +1,10 @@
--- For each public call, any two results that its contract allows coincide: every field of the answer and every cell of the area. The contracts are
--- equations with the calls' definitions, so this is one step for each.
+-- For each public call, any two results that its contract allows coincide: every field of the answer, every cell of the area, the tree part's bytes and
+-- its address. The contracts are equations with the calls' definitions, so this is one step for each.
 use Prim.Native.Nat.{ℕ}
 use mathlib.Core.Path.{_≡_, sym, _∙_}
 use mathlib.Core.List.{List}
-use Rattle.modelfile.specs.File.{treePart}
+use denote.Ref.{RefT, now, ptr}
+use Rattle.modelfile.specs.File.{treePart, partFrom, bytesOn}
 use Rattle.calls.specs.Plan.{plan}
 use Rattle.calls.specs.Start.{start}
 use Rattle.calls.specs.Advance.{advance}
@@ -26,8 +27,9 @@ AdvanceAllows file lower done budget area r A = (r ≡ advance file lower done b
 abbrev pub SheetAllows : List ℕ → List ℕ → SheetAnswer → List ℕ → Type 0
 SheetAllows file area r A = (r ≡ sheet file area .answer) × (A ≡ sheet file area .area)
 
-abbrev pub PartAllows : List ℕ → List ℕ → Type 0
-PartAllows file r = r ≡ treePart file
+-- the tree part is a reference into the file: its bytes and its address
+abbrev pub PartAllows : RefT (List ℕ) → RefT (List ℕ) → Type 0
+PartAllows file r = (now r ≡ treePart (now file)) × (ptr r ≡ bytesOn (ptr file) (partFrom (now file)))
 
 one : {A : Type 0} {x y z : A} → x ≡ z → y ≡ z → x ≡ y
 one p q = p ∙ sym q
@@ -44,5 +46,5 @@ advance-determined file lower done budget area r s A B p q = (one (p .0) (q .0),
 pub sheet-determined : (file area : List ℕ) (r s : SheetAnswer) (A B : List ℕ) → SheetAllows file area r A → SheetAllows file area s B → (r ≡ s) × (A ≡ B)
 sheet-determined file area r s A B p q = (one (p .0) (q .0), one (p .1) (q .1))
 
-pub part-determined : (file r s : List ℕ) → PartAllows file r → PartAllows file s → r ≡ s
-part-determined file r s p q = one p q
+pub part-determined : (file r s : RefT (List ℕ)) → PartAllows file r → PartAllows file s → (now r ≡ now s) × (ptr r ≡ ptr s)
+part-determined file r s p q = (one (p .0) (q .0), one (p .1) (q .1))

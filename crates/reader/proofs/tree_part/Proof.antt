@@ -29,6 +29,10 @@ module _ (file : List ℕ) {r : Reading} (e : r ≡ readFile file) where
   from-empty : (address : ℕ × ℕ) (number place : ℕ) → r .verdict ≡ Verdict.Refused number place → bytesOn address 0 ≡ bytesOn address (partFrom file)
   from-empty address number place f = ap (bytesOn address) (sym (from-refused file number place (rw e at f)))
 
+-- a part from n to n is empty wherever it lies; where that is, its address tells
+sub-self : (n : ℕ) → n - n ≡ 0
+sub-self n = omega arith
+
 read-file-requires : tie.Need-read-file-requires
 read-file-requires c κs = search needs
 
@@ -63,7 +67,7 @@ returns : tie.Need-returns
 returns c = (search part-given, search from-given)
 
 returns-2 : tie.Need-returns-2
-returns-2 c = (search part-empty, search from-empty)
+returns-2 c = (search (part-empty, sub-self), search from-empty)
 
 pub tree-part-spec : {M : Type 1} → statement M
 tree-part-spec =
