@@ -4,9 +4,10 @@ use mathlib.Core.Path.{_≡_, refl, sym, ap, _∙_}
 use mathlib.Core.List.{List}
 use native.Mathlib.Omega.{arith}
 use lib.ListN.{length}
-use Rattle.modelfile.specs.File.{readFile, treePart}
+use Rattle.modelfile.specs.File.{readFile}
+use Rattle.modelfile.specs.Part.{treePart}
 use Rattle.modelfile.specs.declared.Verdict.{Verdict}
-use Rattle.modelfile.proofs.PartLaws.{first-inside, part-length, part-refused}
+use Rattle.modelfile.proofs.PartLaws.{first-inside, part-length, part-refused, from-accepted, from-refused}
 use Rattle.calls.specs.Answers.{partNumbers}
 use Rattle.calls.specs.Promises.{BoardPartAllows}
 
@@ -28,9 +29,9 @@ module _ (file part : List ℕ) (e : part ≡ treePart file) where
   unfolding partNumbers
   part-none z = by (readFile file .verdict) refl
     where
-      by : (v : Verdict) → readFile file .verdict ≡ v → record { from = 0; length = 0 } ≡ partNumbers v (readFile file .model .first) (length (treePart file))
+      by : (v : Verdict) → readFile file .verdict ≡ v → record { from = 0; length = 0 } ≡ partNumbers file
       by Verdict.Accepted d = absurd (omega (arith, z, accepted-some d .1))
-      by (Verdict.Refused number place) d = refl
+      by (Verdict.Refused number place) d = λ i. record { from = sym (from-refused file number place d) i; length = (sym z ∙ ap length e) i }
 
   module _ (some : length part ≡ 0 → ⊥) where
     accepted : readFile file .verdict ≡ Verdict.Accepted
@@ -47,4 +48,4 @@ module _ (file part : List ℕ) (e : part ≡ treePart file) where
     unfolding partNumbers
     part-some =
         let f : length file - 1 - length part ≡ readFile file .model .first = omega (arith, accepted-some accepted .0) in
-        rw accepted (λ i. record { from = f i; length = length (e i) })
+        λ i. record { from = (f ∙ sym (from-accepted file accepted)) i; length = length (e i) }

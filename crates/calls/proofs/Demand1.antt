@@ -12,13 +12,14 @@ use lib.ListN.{length, getD, take, drop, replicate}
 use borrow.Author.Tests.{le-ltb}
 use Rattle.sums.specs.Choice.{choose}
 use Rattle.sums.specs.Lists.{some}
-use Rattle.modelfile.specs.File.{readFile, treePart}
+use Rattle.modelfile.specs.File.{readFile}
+use Rattle.modelfile.specs.Part.{treePart, partFrom}
 use Rattle.modelfile.specs.Network.{windowsOf}
 use Rattle.modelfile.specs.declared.Model.{Model}
 use Rattle.modelfile.specs.declared.Verdict.{Verdict}
-use Rattle.modelfile.proofs.PartLaws.{part-refused, part-accepted}
+use Rattle.modelfile.proofs.PartLaws.{part-refused, part-accepted, part-length, from-refused, from-accepted}
 use Rattle.modelfile.proofs.WalkLaws.{refused-range}
-use Rattle.calls.specs.Answers.{Left, tell, planNumbers, startNumbers, advanceNumbers, noSheet}
+use Rattle.calls.specs.Answers.{Left, tell, planNumbers, startNumbers, advanceNumbers, noSheet, partNumbers}
 use Rattle.calls.specs.Asked.{Asked, refused, granted, pickAsked, lessOne, runWindows, lowering, onVerdict, ask, onGranted, modelOf, windowsFor, cellsIn, pairsIn, filledBy}
 use Rattle.calls.specs.Refusals.{firstOf, windowZero}
 use Rattle.calls.specs.Plan.{plan}
@@ -56,6 +57,7 @@ pub record FileRefused (file : List ℕ) (number place : ℕ) : Type 0 where
       ≡ record { answer = record { refusal = number; place = place; done = 0; value = 0 }; area = area }
   pub sheeted : (area : List ℕ) → sheet file area ≡ record { answer = sheetRefused number place; area = area }
   pub part : treePart file ≡ []
+  pub part-place : partNumbers file ≡ record { from = 0; length = 0 }
 
 -- an accepted file: 10 to 15, "in order"; plan gives 10 and 11, start 10 to 12 and 14, advance 10 to 14, the sheet 12, 14 and 15
 pub record FileAccepted (file : List ℕ) (m : Model) : Type 0 where
@@ -87,14 +89,16 @@ pub record FileAccepted (file : List ℕ) (m : Model) : Type 0 where
       ≡ firstOf ((12, noRoom (cellsIn m windows) area) ∷ []) (λ number. record { answer = sheetRefused number 0; area = area })
       (firstOf ((14, tooLarge (fullValue m)) ∷ (15, some tooLarge (numerators m)) ∷ []) (λ number. record { answer = sheetRefused number 0; area = zeros })
       (record {
-      answer = record { refusal = 0; place = 0; value = fullValue m; pairs = pairsIn m windows; cells = cellsIn m windows; chains = m .chains; numerators = numerators m; busiest = busiest m };
-      area = zeros })))
+        answer = record { refusal = 0; place = 0; value = fullValue m; pairs = pairsIn m windows; cells = cellsIn m windows; chains = m .chains; numerators = numerators m; busiest = busiest m };
+        area = zeros;
+      })))
   -- "Cells past the model's are never written."
   pub start-past : (lower : ℕ) (area : List ℕ) (i : ℕ) → cellsIn m (runWindows m lower) ≤ i → getD (start file lower area .area) i 0 ≡ getD area i 0
   pub advance-past : (lower done budget : ℕ) (area : List ℕ) (i : ℕ) → cellsIn m (runWindows m lower) ≤ i → getD (advance file lower done budget area .area) i 0 ≡ getD area i 0
   pub sheet-past : (area : List ℕ) (i : ℕ) → cellsIn m (windowsOf m) ≤ i → getD (sheet file area .area) i 0 ≡ getD area i 0
   -- the tree part: "from the first leaf up to but without the end record", which is the last byte
   pub part : treePart file ≡ take (length file - 1 - m .first) (drop (m .first) file)
+  pub part-place : partNumbers file ≡ record { from = m .first; length = length file - 1 - m .first }
 
 pub record Demand1 (file : List ℕ) : Type 0 where
   pub either : (readFile file .verdict ≡ Verdict.Accepted) ⊎ ((number : ℕ) × (place : ℕ) × (readFile file .verdict ≡ Verdict.Refused number place))
@@ -104,7 +108,7 @@ pub record Demand1 (file : List ℕ) : Type 0 where
 -- ---- the proof
 
 file-refused : (file : List ℕ) (number place : ℕ) → readFile file .verdict ≡ Verdict.Refused number place → FileRefused file number place
-unfolding plan start advance sheet ask planNumbers startNumbers advanceNumbers noSheet
+unfolding plan start advance sheet ask planNumbers startNumbers advanceNumbers noSheet partNumbers
 file-refused file number place e = record {
   range = refused-range file number place e;
   planned = λ lower i. planNumbers (onGranted (onVerdict (e i) (lowering (modelOf file) lower)) (λ number place. PlanAnswer.Refused number place) (λ m windows. PlanAnswer.Planned (cellsIn m windows) (pairsIn m windows)));
@@ -112,10 +116,14 @@ file-refused file number place e = record {
   advanced = λ lower done budget area i. tell advanceNumbers (onGranted (onVerdict (e i) (lowering (modelOf file) lower)) (λ number place. noAdvance number place area) (λ m windows. advanceIn m windows done budget area));
   sheeted = λ area i. onGranted (onVerdict (e i) (lowering (modelOf file) 0)) (λ number place. record { answer = noSheet number place; area = area }) (λ m windows. sheetIn m windows area);
   part = part-refused file number place e;
+  part-place = λ i. record { from = from-refused file number place e i; length = length (part-refused file number place e i) };
 }
 
+part-size : (file : List ℕ) → readFile file .verdict ≡ Verdict.Accepted → length (treePart file) ≡ length file - 1 - modelOf file .first
+part-size file e = omega (arith, part-length file e)
+
 file-accepted : (file : List ℕ) → readFile file .verdict ≡ Verdict.Accepted → FileAccepted file (modelOf file)
-unfolding noSheet fullSheet
+unfolding noSheet fullSheet partNumbers
 file-accepted file e = record {
   planned = plan-all file e;
   started = start-all file e;
@@ -130,6 +138,7 @@ file-accepted file e = record {
   advance-past = λ lower done budget area. advance-past file lower done budget area;
   sheet-past = λ area. sheet-past file area;
   part = part-accepted file e;
+  part-place = λ i. record { from = from-accepted file e i; length = part-size file e i };
 }
 
 pub demand-1 : (file : List ℕ) → Demand1 file

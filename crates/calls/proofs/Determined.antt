@@ -1,9 +1,12 @@
--- For each public call, any two results that its promise allows coincide: every field of the answer and every cell of the area. The promises
--- (specs/Promises) are what the contracts in the source cite, and are equations with the calls' definitions, so this is one step for each.
+-- For each public call, any two results that its promise allows coincide: every field of the answer, every cell of the area, the tree part's bytes and
+-- its address. The promises (specs/Promises, and modelfile/specs/Part) are what the contracts in the source cite, and are equations with the calls'
+-- definitions, so this is one step for each.
 use Prim.Native.Nat.{ℕ}
 use mathlib.Core.Path.{_≡_, sym, _∙_}
 use mathlib.Core.List.{List}
-use Rattle.calls.specs.Promises.{PlanAllows, StartAllows, AdvanceAllows, SheetAllows, PartAllows, BoardPlanAllows, BoardStartAllows, BoardAdvanceAllows, BoardPartAllows}
+use denote.Ref.{RefT, now, ptr}
+use Rattle.modelfile.specs.Part.{PartAllows}
+use Rattle.calls.specs.Promises.{PlanAllows, StartAllows, AdvanceAllows, SheetAllows, BoardPlanAllows, BoardStartAllows, BoardAdvanceAllows, BoardPartAllows}
 use Rattle.calls.specs.declared.PlanAnswer.{PlanAnswer}
 use Rattle.calls.specs.declared.PlanNumbers.{PlanNumbers}
 use Rattle.calls.specs.declared.StartAnswer.{StartAnswer}
@@ -35,9 +38,9 @@ advance-determined file lower done budget area r s left other p q = (one (p .0) 
 pub sheet-determined : (file area : List ℕ) → Both (SheetAllows file area)
 sheet-determined file area r s left other p q = (one (p .0) (q .0), one (p .1) (q .1))
 
--- the bytes; where they lie is settled by board-part-determined
-pub part-determined : (file : List ℕ) → Alone (PartAllows file)
-part-determined file r s p q = one p q
+-- the tree part is a reference into the file: its bytes and its address
+pub part-determined : (file r s : RefT (List ℕ)) → PartAllows file r → PartAllows file s → (now r ≡ now s) × (ptr r ≡ ptr s)
+part-determined file r s p q = (one (p .0) (q .0), one (p .1) (q .1))
 
 -- ---- the calls for boards; the sheet's answer is the same there
 

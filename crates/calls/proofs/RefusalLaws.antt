@@ -9,7 +9,7 @@ use lib.ListN.{length, getD, take, drop, replicate}
 use borrow.Author.Tests.{le-ltb}
 use Rattle.sums.specs.Choice.{choose}
 use Rattle.sums.specs.Lists.{some}
-use Rattle.modelfile.specs.File.{readFile, treePart}
+use Rattle.modelfile.specs.File.{readFile}
 use Rattle.modelfile.specs.Network.{windowsOf}
 use Rattle.modelfile.specs.declared.Model.{Model}
 use Rattle.modelfile.specs.declared.Verdict.{Verdict}

@@ -16,9 +16,10 @@ use Rattle.network.specs.Run.{sumAt, add, spend}
 use Rattle.modelfile.specs.Ends.{outside}
 use Rattle.modelfile.specs.Model.{emptyModel, withSize, withWindow, withLoad, withLeaf, withJoin}
 use Rattle.modelfile.specs.Records.{chainWithoutCentre, centreMissing, readSize, readWindow, readLoad, readLeaf, readJoin, readEnd, bodyLength, due, readBody, readRecord}
-use Rattle.modelfile.specs.File.{readFrom, readFile, treePart}
+use Rattle.modelfile.specs.File.{readFrom, readFile}
+use Rattle.modelfile.specs.Part.{treePart, partFrom}
 use Rattle.modelfile.specs.Network.{windowsOf, loadsOf, centresOf, joined, subtrees, treeOf}
-use Rattle.calls.specs.Answers.{Left, planNumbers, startNumbers, advanceNumbers, noSheet}
+use Rattle.calls.specs.Answers.{Left, planNumbers, startNumbers, advanceNumbers, noSheet, partNumbers}
 use Rattle.calls.specs.Asked.{lowering, ask}
 use Rattle.calls.specs.Plan.{plan}
 use Rattle.calls.specs.Start.{noRoom, startIn, start}
@@ -106,6 +107,7 @@ pub record Starred : Type 0 where
   pub B-area-3 : advanced 12 B 0 3 .area ≡ 1 ∷ 2 ∷ 1 ∷ 4 ∷ 1 ∷ 3 ∷ 4 ∷ 6 ∷ 1 ∷ 1 ∷ 0 ∷ 7 ∷ []
   pub B-area-6 : advanced 12 B 0 6 .area ≡ 1 ∷ 2 ∷ 1 ∷ 4 ∷ 1 ∷ 3 ∷ 4 ∷ 10 ∷ 1 ∷ 1 ∷ 14 ∷ 7 ∷ []
   pub B-tree-part : treePart B ≡ 4 ∷ 1 ∷ 4 ∷ 2 ∷ 5 ∷ 4 ∷ 3 ∷ 5 ∷ []
+  pub B-tree-place : partNumbers B ≡ record { from = 29; length = 8 }
   pub other-run : runOf 13 other 0 8 ≡ advanceTells 8 14
   pub other-cells-pairs : planNumbers (plan other 0) ≡ planTells 13 8
   pub two-run : runOf 7 two 0 3 ≡ advanceTells 3 7
@@ -137,7 +139,7 @@ unfolding flatMap zipWith from byNumber some all when those among sumOver splits
     binomial multinomial powers weight visit fits emptyStates states stateWeight value lowered
     under visits chainCentres coverageBy coverage coverages span indexValues indices size cells stride strides along spansAt allCells base cellOf spread startCell filled
     chainPairs indexPairs factor factors ownPairs listed allPairs triangles plainPairs sumAt add spend
-    outside emptyModel withSize withWindow withLoad withLeaf withJoin chainWithoutCentre centreMissing readSize readWindow readLoad readLeaf readJoin readEnd bodyLength due readBody readRecord readFrom readFile treePart
+    outside emptyModel withSize withWindow withLoad withLeaf withJoin chainWithoutCentre centreMissing readSize readWindow readLoad readLeaf readJoin readEnd bodyLength due readBody readRecord readFrom readFile treePart partFrom partNumbers
     windowsOf loadsOf centresOf joined subtrees treeOf planNumbers startNumbers advanceNumbers lowering ask plan noRoom startIn start valueAt told advanceIn advance
     fullValue numerator loadSum largest firstWith busiest noSheet numerators fullSheet sheetOf cleared sheetIn sheet
     front B other two both once single started advanced runOf statesOf plainOf
@@ -157,6 +159,7 @@ starred = record {
   B-area-3 = refl;
   B-area-6 = refl;
   B-tree-part = refl;
+  B-tree-place = refl;
   other-run = refl;
   other-cells-pairs = refl;
   two-run = refl;

@@ -2,8 +2,8 @@
 -- stands for no refusal. The promises of the calls for boards cite these.
 use Prim.Native.Nat.{ℕ}
 use mathlib.Core.List.{List}
-use lib.ListN.{replicate}
-use Rattle.modelfile.specs.declared.Verdict.{Verdict}
+use lib.ListN.{length, replicate}
+use Rattle.modelfile.specs.Part.{treePart, partFrom}
 use Rattle.calls.specs.declared.PlanAnswer.{PlanAnswer}
 use Rattle.calls.specs.declared.PlanNumbers.{PlanNumbers}
 use Rattle.calls.specs.declared.StartAnswer.{StartAnswer}
@@ -30,10 +30,9 @@ advanceNumbers (AdvanceAnswer.Refused number place) = record { refusal = number;
 unfoldable pub noSheet : ℕ → ℕ → SheetAnswer
 noSheet number place = record { refusal = number; place = place; value = 0; pairs = 0; cells = 0; chains = 0; numerators = replicate 8 0; busiest = 0 }
 
--- the tree part, of a file whose first leaf stands at `first`: 0 and 0 where the file is refused
-unfoldable pub partNumbers : Verdict → ℕ → ℕ → PartNumbers
-partNumbers Verdict.Accepted first size = record { from = first; length = size }
-partNumbers (Verdict.Refused number place) first size = record { from = 0; length = 0 }
+-- where the tree part begins in a file, and how long it is
+unfoldable pub partNumbers : List ℕ → PartNumbers
+partNumbers file = record { from = partFrom file; length = length (treePart file) }
 
 -- an answer, and the area that the call leaves
 pub record Left (Answer : Type 0) : Type 0 where

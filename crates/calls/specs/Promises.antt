@@ -1,10 +1,8 @@
 -- What each public call promises of its answer r and, where an area is lent, of what that holds at exit. The contracts in the source cite
--- these, and so do the theorems about the contracts (Determined, WrongPrograms).
+-- these, and so do the theorems about the contracts (Determined, WrongPrograms). The tree part's promise stands in modelfile/specs/Part.
 use Prim.Native.Nat.{ℕ}
 use mathlib.Core.Path.{_≡_}
 use mathlib.Core.List.{List}
-use lib.ListN.{length}
-use Rattle.modelfile.specs.File.{readFile, treePart}
 use Rattle.calls.specs.Answers.{Left, planNumbers, startNumbers, advanceNumbers, partNumbers}
 use Rattle.calls.specs.Plan.{plan}
 use Rattle.calls.specs.Start.{start}
@@ -31,9 +29,6 @@ AdvanceAllows file lower done budget area r left = (r ≡ advance file lower don
 abbrev pub SheetAllows : List ℕ → List ℕ → SheetAnswer → List ℕ → Type 0
 SheetAllows file area r left = (r ≡ sheet file area .answer) × (left ≡ sheet file area .area)
 
-abbrev pub PartAllows : List ℕ → List ℕ → Type 0
-PartAllows file r = r ≡ treePart file
-
 -- ---- the calls for boards: the same, told as numbers
 
 abbrev pub BoardPlanAllows : List ℕ → ℕ → PlanNumbers → Type 0
@@ -47,4 +42,4 @@ BoardAdvanceAllows file lower done budget area r left =
     (r ≡ advanceNumbers (advance file lower done budget area .answer)) × (left ≡ advance file lower done budget area .area)
 
 abbrev pub BoardPartAllows : List ℕ → PartNumbers → Type 0
-BoardPartAllows file r = let read = readFile file in r ≡ partNumbers (read .verdict) (read .model .first) (length (treePart file))
+BoardPartAllows file r = r ≡ partNumbers file

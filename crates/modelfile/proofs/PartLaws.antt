@@ -9,7 +9,8 @@ use lib.Dec.{eqb}
 use lib.ListN.{length, take, drop, length-drop}
 use lib.Seq.{length-take-le}
 use Rattle.modelfile.specs.Model.{emptyModel, withSize, withWindow, withLoad, firstPlace, withLeaf, withJoin}
-use Rattle.modelfile.specs.File.{readFile, treePart}
+use Rattle.modelfile.specs.File.{readFile}
+use Rattle.modelfile.specs.Part.{treePart, partFrom}
 use Rattle.modelfile.specs.declared.Model.{Model}
 use Rattle.modelfile.specs.declared.Verdict.{Verdict}
 use Rattle.modelfile.proofs.StepLaws.{positive, Taken}
@@ -42,6 +43,14 @@ part-refused file number place e = rw e
 pub part-accepted : (file : List ℕ) → readFile file .verdict ≡ Verdict.Accepted → treePart file ≡ take (length file - 1 - readFile file .model .first) (drop (readFile file .model .first) file)
 unfolding treePart
 part-accepted file e = rw e
+
+pub from-refused : (file : List ℕ) (number place : ℕ) → readFile file .verdict ≡ Verdict.Refused number place → partFrom file ≡ 0
+unfolding partFrom
+from-refused file number place e = rw e
+
+pub from-accepted : (file : List ℕ) → readFile file .verdict ≡ Verdict.Accepted → partFrom file ≡ readFile file .model .first
+unfolding partFrom
+from-accepted file e = rw e
 
 pub part-length : (file : List ℕ) → readFile file .verdict ≡ Verdict.Accepted → readFile file .model .first + length (treePart file) + 1 ≡ length file
 part-length file e =

@@ -1,7 +1,6 @@
--- A whole file: a model, or a refusal 1 to 9 with its place; and its tree part.
-use Prim.Native.Nat.{ℕ, zero, suc, _-_}
+-- A whole file: a model, or a refusal 1 to 9 with its place.
+use Prim.Native.Nat.{ℕ, zero, suc}
 use mathlib.Core.List.{List, [], _∷_}
-use lib.ListN.{length, take, drop}
 use Rattle.modelfile.specs.Model.{emptyModel}
 use Rattle.modelfile.specs.Records.{bodyLength, readRecord}
 use Rattle.modelfile.specs.declared.Model.{Model}
@@ -28,14 +27,3 @@ readFrom (byte ∷ rest) zero at m =
 
 unfoldable pub readFile : List ℕ → Reading
 readFile file = readFrom file 0 0 emptyModel
-
--- "The tree part is handed back as the caller's own bytes, from the first leaf up to but without the end record", which is the last
--- byte; "the empty part" where the file is refused
-abbrev pub partIf : Verdict → List ℕ → List ℕ
-partIf Verdict.Accepted part = part
-partIf (Verdict.Refused number place) part = []
-
-unfoldable pub treePart : List ℕ → List ℕ
-treePart file =
-    let r = readFile file in
-    partIf (r .verdict) (take (length file - 1 - r .model .first) (drop (r .model .first) file))

@@ -1,6 +1,7 @@
 // The model file of document 01: from bytes to a model or a refusal 1 to 9, and the tree part of a file.
 ghost use mathlib.Core.Path.{_≡_};
-ghost use Rattle.modelfile.specs.File.{refused, readFile, treePart};
+ghost use Rattle.modelfile.specs.File.{refused, readFile};
+ghost use Rattle.modelfile.specs.Part.{PartAllows};
 ghost use Rattle.modelfile.specs.declared.Verdict.{Verdict};
 use crate::model::empty_model;
 use crate::model::first_place;
@@ -87,7 +88,7 @@ pub fn read_file(file: &[u8]) -> Reading
 
 // The caller's own bytes, from the first leaf up to the end record; the empty part where the file is refused.
 pub fn tree_part(file: &[u8]) -> &[u8]
-    ensures { λ r. ⌜ now r ≡ treePart (now (file .entry)) ⌝ }
+    ensures { λ r. ⌜ PartAllows (file .entry) r ⌝ }
 {
     let r = read_file(file);
     let verdict = r.verdict;

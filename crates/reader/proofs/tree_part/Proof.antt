@@ -1,14 +1,15 @@
 -- `reader::tree_part`. An accepted file's first leaf stands before its last byte, so the part lies in the file.
 use Prim.Native.Nat.{ℕ, _+_, _-_, _≤_}
-use mathlib.Core.Path.{_≡_, sym}
+use mathlib.Core.Path.{_≡_, sym, ap}
 use mathlib.Core.List.{List, []}
 use native.Mathlib.Omega.{arith}
 use lib.ListN.{length, take, drop}
 use borrow.Author.Needs.{needs}
-use Rattle.modelfile.specs.File.{readFile, treePart}
+use Rattle.modelfile.specs.File.{readFile}
+use Rattle.modelfile.specs.Part.{treePart, partFrom, bytesOn}
 use Rattle.modelfile.specs.declared.Verdict.{Verdict}
 use Rattle.modelfile.specs.declared.Reading.{Reading}
-use Rattle.modelfile.proofs.PartLaws.{first-inside, part-accepted, part-refused}
+use Rattle.modelfile.proofs.PartLaws.{first-inside, part-accepted, part-refused, from-accepted, from-refused}
 use Rattle.reader.proofs.tree_part.Statement.{statement}
 use Rattle.reader.proofs.tree_part.Tie as tie
 
@@ -20,8 +21,18 @@ module _ (file : List ℕ) {r : Reading} (e : r ≡ readFile file) where
   part-given : r .verdict ≡ Verdict.Accepted → take (length file - 1 - r .model .first) (drop (r .model .first) file) ≡ treePart file
   part-given f = rw e (sym (part-accepted file (rw e at f)))
 
+  from-given : (address : ℕ × ℕ) → r .verdict ≡ Verdict.Accepted → bytesOn address (r .model .first) ≡ bytesOn address (partFrom file)
+  from-given address f = ap (bytesOn address) (rw e (sym (from-accepted file (rw e at f))))
+
   part-empty : (number place : ℕ) → r .verdict ≡ Verdict.Refused number place → [] ≡ treePart file
   part-empty number place f = sym (part-refused file number place (rw e at f))
+
+  from-empty : (address : ℕ × ℕ) (number place : ℕ) → r .verdict ≡ Verdict.Refused number place → bytesOn address 0 ≡ bytesOn address (partFrom file)
+  from-empty address number place f = ap (bytesOn address) (sym (from-refused file number place (rw e at f)))
+
+-- a part from n to n is empty wherever it lies; where that is, its address tells
+sub-self : (n : ℕ) → n - n ≡ 0
+sub-self n = omega arith
 
 read-file-requires : tie.Need-read-file-requires
 read-file-requires c κs = search needs
@@ -54,10 +65,10 @@ part-result-end-2 : tie.Need-part-result-end-2
 part-result-end-2 c = search needs
 
 returns : tie.Need-returns
-returns c = search part-given
+returns c = (search part-given, search from-given)
 
 returns-2 : tie.Need-returns-2
-returns-2 c = search part-empty
+returns-2 c = (search (part-empty, sub-self), search from-empty)
 
 pub tree-part-spec : {M : Type 1} → statement M
 tree-part-spec =
