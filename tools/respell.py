@@ -79,13 +79,27 @@ def declared(code):
             yield words, name
 
 
+def fields(code):
+    """The fields that a file's records declare."""
+    depth = None
+    for line in code.splitlines():
+        indent = len(line) - len(line.lstrip())
+        if re.match(r"\s*(pub +)?record ", line):
+            depth = indent
+        elif depth is not None and line.strip() and indent <= depth:
+            depth = None
+        elif depth is not None:
+            yield from (name for _, name in declared(line))
+
+
 def table_of(root):
-    """Each own name that turns, with its new spelling."""
-    table, clash = {}, []
+    """Each own name that turns, with its new spelling; the fields among them; and what would fall together."""
+    table, own_fields, clash = {}, set(), []
     texts = {path: code_of(read(path)) for path in files(os.path.join(root, "crates"), (".antt",))}
     for path, code in texts.items():
         if not own_file(path):
             continue
+        own_fields |= set(fields(code))
         seen = {name for _, name in imported(code)} | {name for words, name in declared(code) if re.search("unfoldable|abbrev|data|record", words) or not words}
         seen = OPERATORS | {snake(name) for name in seen if "-" not in name}
         for _, name in declared(code):
@@ -108,16 +122,16 @@ def table_of(root):
             turned.setdefault(table.get(name, name), set()).add(name)
         clash += [f"{path}: {sorted(olds)} would all be {new}" for new, olds in turned.items() if len(olds) > 1]
         clash += [f"{path}: {name} of {where} is the kit's" for where, name in imported(code) if name in table and not where.startswith("Rattle.")]
-    return table, clash
+    return table, own_fields, clash
 
 
-def turn_words(text, table):
+def turn_words(text, table, own_fields):
     def one(m):
         word, at = m.group(0), m.start()
         if word not in table:
             return word
         before = text[:at]
-        if "-" in word and before.endswith(".") and not re.search(r"[A-Z]\w*\.$", before):
+        if "-" in word and word not in own_fields and before.endswith(".") and not re.search(r"[A-Z]\w*\.$", before):
             return word  # a field that Rattle makes
         return table[word]
 
@@ -134,20 +148,20 @@ def turn_prose(text, table):
     return re.sub(r"(?<![\w`./-])[a-z][\w-]*[a-z0-9][A-Z]\w*(?![\w`/-])", lambda w: table.get(w.group(0), w.group(0)), text)
 
 
-def turn_file(path, table):
+def turn_file(path, table, own_fields):
     text = read(path)
     if path.endswith(".md"):
         new = turn_prose(text, table)
     elif path.endswith(".edit"):
-        new = "".join(turn_words(line, table) if re.match(r"(old|new): ", line) and "specs/" in text else line for line in text.splitlines(keepends=True))
+        new = "".join(turn_words(line, table, own_fields) if re.match(r"(old|new): ", line) and "specs/" in text else line for line in text.splitlines(keepends=True))
     else:
         quiet = RUST_QUIET if path.endswith(".rt") else QUIET
         new, at = "", 0
         for m in quiet.finditer(text):
             said = m.group(0)
-            new += turn_words(text[at : m.start()], table) + (said if said.startswith('"') else turn_prose(said, table))
+            new += turn_words(text[at : m.start()], table, own_fields) + (said if said.startswith('"') else turn_prose(said, table))
             at = m.end()
-        new += turn_words(text[at:], table)
+        new += turn_words(text[at:], table, own_fields)
     if new != text:
         with open(path, "w", encoding="utf-8") as f:
             f.write(new)
@@ -156,7 +170,7 @@ def turn_file(path, table):
 
 def main():
     root = subprocess.run(["git", "rev-parse", "--show-toplevel"], capture_output=True, text=True, check=True).stdout.strip()
-    table, clash = table_of(root)
+    table, own_fields, clash = table_of(root)
     if clash:
         print("\n".join(clash))
         return 1
@@ -164,9 +178,9 @@ def main():
     in_code = {old: new for old, new in table.items() if CAMEL.search(old) and "-" not in old}
     turned = 0
     for path in files(os.path.join(root, "crates"), (".antt", ".edit")):
-        turned += turn_file(path, table)
+        turned += turn_file(path, table, own_fields)
     for path in files(os.path.join(root, "crates"), (".rt",)):
-        turned += turn_file(path, in_code)
+        turned += turn_file(path, in_code, own_fields)
     for name in sorted(os.listdir(os.path.join(root, "crates"))):
         subprocess.run(["rt", "fmt"], cwd=os.path.join(root, "crates", name), stdout=subprocess.DEVNULL, stderr=subprocess.DEVNULL)
     print(f"{len(table)} names, {turned} files")

@@ -86,13 +86,13 @@ best_more b sums centre sum w n = by (ltb b.most sum) refl
   where
     by : (t : Bool) → ltb b.most sum ≡ t → BestOf (choose t (λ u. record { centre = centre; most = sum }) (λ u. b)) (sums ++ (sum ∷ []))
     by true e =
-        let h : largest sums < sum = omega (arith, ltb-true b.most sum e, w.most-is) in
+        let h : largest sums < sum = omega (arith, ltb-true b.most sum e, w.most_is) in
         let m : largest (sums ++ (sum ∷ [])) ≡ sum = omega (arith, largest_more sums sum) in
         record { most_is = sym m; centre_is = n ∙ sym (first_new sum sums h) ∙ ap (λ x. first_with x (sums ++ (sum ∷ []))) (sym m) }
     by false e =
-        let h : sum ≤ largest sums = omega (arith, ltb-false b.most sum e, w.most-is) in
+        let h : sum ≤ largest sums = omega (arith, ltb-false b.most sum e, w.most_is) in
         let m : largest (sums ++ (sum ∷ [])) ≡ largest sums = omega (arith, largest_more sums sum) in
-        record { most_is = w.most-is ∙ sym m; centre_is = w.centre-is ∙ sym (first_kept sums sum h) ∙ ap (λ x. first_with x (sums ++ (sum ∷ []))) (sym m) }
+        record { most_is = w.most_is ∙ sym m; centre_is = w.centre_is ∙ sym (first_kept sums sum h) ∙ ap (λ x. first_with x (sums ++ (sum ∷ []))) (sym m) }
 
 -- the loop over centres: those before c are done
 pub record Busy (m : Model) (b : Best) (c : ℕ) : Type 0 where
@@ -124,7 +124,7 @@ module _ (m : Model) where
   unfolding busiest
   busy_last {b} {c} w h =
       let d : c - 1 ≡ m.centres = omega (arith, w.low, w.high) in
-      w.best.centre-is ∙ ap (λ n. first_with (largest (map (load_sum m) (from 1 n))) (map (load_sum m) (from 1 n))) d
+      w.best.centre_is ∙ ap (λ n. first_with (largest (map (load_sum m) (from 1 n))) (map (load_sum m) (from 1 n))) d
 
 -- ---- a centre's sum of loads: those of the first k chains are added
 
@@ -142,11 +142,11 @@ module _ (m : Model) (g : Guaranteed m) (centre : ℕ) where
   unfolding sum_over
   summed_turn {sum} {k} w h a b =
       let rest = drop ((centre - 1) * 8) m.loads in
-      let l : k < length rest = omega (arith, length-drop ((centre - 1) * 8) m.loads, g.loads-long, g.chains-range, g.centres-range) in
+      let l : k < length rest = omega (arith, length-drop ((centre - 1) * 8) m.loads, g.loads_long, g.chains_range, g.centres_range) in
       record {
         few = omega arith;
         sum_is = ap (λ n. sum + n) (sym (get_or-drop ((centre - 1) * 8) m.loads k 0)) ∙ last rest k l w.sum_is;
-        low = omega (arith, w.low, g.load-range ((centre - 1) * 8 + k));
+        low = omega (arith, w.low, g.load_range ((centre - 1) * 8 + k));
       }
     where
       last : (rest : List ℕ) (k : ℕ) → k < length rest → sum ≡ sum_over (take k rest) (λ load. load) → sum + get_or rest k 0 ≡ sum_over (take (k + 1) rest) (λ load. load)

@@ -131,7 +131,7 @@ file_accepted file e = record {
   advanced = λ lower done budget area cells pairs p small fits low.
       let q = planned file lower cells pairs p in
       advance_spending file lower (model_of file) (windows_for file lower) q.asked done area
-      (room_none (cells_in (model_of file) (windows_for file lower)) area (subst (λ n. n ≤ 8192) q.cells_are small) (subst (λ n. n ≤ length area) q.cells_are fits)) (subst (λ n. done ≤ n) q.pairs-are low) budget;
+      (room_none (cells_in (model_of file) (windows_for file lower)) area (subst (λ n. n ≤ 8192) q.cells_are small) (subst (λ n. n ≤ length area) q.cells_are fits)) (subst (λ n. done ≤ n) q.pairs_are low) budget;
   goes_on = λ lower done budget area. goes_on file lower done budget area;
   sheeted = sheet_all file e;
   start_past = λ lower area. start_past file lower area;

@@ -189,9 +189,9 @@ demand_2 file lower cells pairs area told small fits b bs reach =
     let m = model_of file in
     let windows = windows_for file lower in
     let room : no_room (cells_in m windows) area ≡ false = room_none (cells_in m windows) area (subst (λ n. n ≤ 8192) p.cells_are small) (subst (λ n. n ≤ length area) p.cells_are fits) in
-    let enough : pairs_in m windows ≤ b + sum bs = subst (λ n. n ≤ b + sum bs) p.pairs-are reach in
+    let enough : pairs_in m windows ≤ b + sum bs = subst (λ n. n ≤ b + sum bs) p.pairs_are reach in
     record {
-      answered = λ low. ap (λ r. r.answer) (went_ends file lower m windows p.asked area room b bs enough low) ∙ ap (λ n. AdvanceAnswer.Advanced n (value (centres_of m) windows)) (sym p.pairs-are);
+      answered = λ low. ap (λ r. r.answer) (went_ends file lower m windows p.asked area room b bs enough low) ∙ ap (λ n. AdvanceAnswer.Advanced n (value (centres_of m) windows)) (sym p.pairs_are);
       last_cell = λ low.
           ap (λ n. get_or (run file lower b bs area).area (n - 1) 0) p.cells_are
           ∙ ap (λ r. get_or r.area (cells_in m windows - 1) 0) (went_ends file lower m windows p.asked area room b bs enough low)

@@ -75,7 +75,7 @@ pairs_known file lower asked =
     let g = (granted_fit file lower m windows asked).0 in
     let f = (granted_fit file lower m windows asked).1 in
     let p : pairs_in m windows ≤ plain_pairs m.centres windows = subst (λ n. pairs_in m windows ≤ plain_pairs n windows) (length_routes m g) (pairs_plain (routes_of (centres_of m)) windows (tree_of m) f.every) in
-    let l : plain_pairs m.centres windows < 2 ^ 63 = plain_below m.centres windows g.centres-range.1 f.windows-few (λ n k. low_member windows 15 f.windows-low n k) in
+    let l : plain_pairs m.centres windows < 2 ^ 63 = plain_below m.centres windows g.centres_range.1 f.windows_few (λ n k. low_member windows 15 f.windows_low n k) in
     record {
       planned = ap (λ a. on_granted a (λ number place. PlanAnswer.Refused number place) (λ m windows. PlanAnswer.Planned (cells_in m windows) (pairs_in m windows))) asked;
       listed_so = listed_pairs m windows f;

@@ -48,11 +48,11 @@ module _ (m : Model) (g : Guaranteed m) where
   unfolding loads_of
   length_loads c h =
       let d : suc c - 1 ≡ c = omega arith in
-      length-take-le m.chains (drop ((suc c - 1) * 8) m.loads) (omega (arith, length-drop ((suc c - 1) * 8) m.loads, g.loads-long, g.chains-range, g.centres-range))
+      length-take-le m.chains (drop ((suc c - 1) * 8) m.loads) (omega (arith, length-drop ((suc c - 1) * 8) m.loads, g.loads_long, g.chains_range, g.centres_range))
 
   pub length_windows : length (windows_of m) ≡ m.chains
   unfolding windows_of
-  length_windows = length-take-le m.chains m.windows (omega (arith, g.windows-long, g.chains-range))
+  length_windows = length-take-le m.chains m.windows (omega (arith, g.windows_long, g.chains_range))
 
   -- a centre of the model is a queue with loads of its own
   queue_of : (c : Centre) → Memᴰ c (centres_of m) → (i : ℕ) × (i < m.centres) × (queue (loads_of m (suc i)) ≡ c)
@@ -94,8 +94,8 @@ module _ (m : Model) (g : Guaranteed m) where
     on = λ c k. let r = queue_of c k in subst On r.2 (queue_on (loads_of m (suc r.0)));
     visited = λ k i. chain k i;
     every = subst (λ n. Permᴰ (under (tree_of m)) (from 1 n)) (sym length_routes) g.leaves;
-    centres_few = omega (arith, length_routes, g.centres-range);
-    windows_few = omega (arith, g.chains-range);
+    centres_few = omega (arith, length_routes, g.centres_range);
+    windows_few = omega (arith, g.chains_range);
     windows_low = low;
   }
     where
@@ -155,4 +155,4 @@ granted_fit file lower m windows e =
     let l = lowering_windows (read_file file).model lower m windows r.1 in
     let g : Guaranteed m = subst Guaranteed l.0 (accepted file r.0) in
     let h : length windows ≡ m.chains = l.1 ∙ ap (λ n. length (windows_of n)) l.0 ∙ length_windows m g in
-    (g, fit m g windows h (l.2 15 (subst (λ n. (k : ℕ) → get_or (windows_of n) k 0 ≤ 15) (sym l.0) (take_low m.chains m.windows 15 g.window-range))))
+    (g, fit m g windows h (l.2 15 (subst (λ n. (k : ℕ) → get_or (windows_of n) k 0 ≤ 15) (sym l.0) (take_low m.chains m.windows 15 g.window_range))))

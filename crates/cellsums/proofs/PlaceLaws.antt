@@ -20,31 +20,31 @@ module _ {size n a b l r : ℕ} {left right : Part} {rows : List ℕ} (w : Withi
   unfolding reach_left reach_right
   within_turn =
       record {
-        left_from = w.left-from;
-        left_to = w.left-to;
-        left_reach = omega (arith, w.left-reach, (steps n j a h).0);
-        right_from = w.right-from;
-        right_to = w.right-to;
-        right_reach = omega (arith, w.right-reach, (steps n j b h).1);
+        left_from = w.left_from;
+        left_to = w.left_to;
+        left_reach = omega (arith, w.left_reach, (steps n j a h).0);
+        right_from = w.right_from;
+        right_to = w.right_to;
+        right_reach = omega (arith, w.right_reach, (steps n j b h).1);
       }
 
   pub left_low : l + j * a < size
-  left_low = omega (arith, within_turn.left-reach, within_turn.left-to)
+  left_low = omega (arith, within_turn.left_reach, within_turn.left_to)
 
   pub right_low : r + (n - 1 - j) * b < size
-  right_low = omega (arith, within_turn.right-reach, within_turn.right-to)
+  right_low = omega (arith, within_turn.right_reach, within_turn.right_to)
 
 module _ {size l r : ℕ} {left right : Part} where
   pub within_none : {rows : List ℕ} → Within size left right rows l r → Within size left right [] l r
   unfolding reach_left reach_right
   within_none w =
       record {
-        left_from = w.left-from;
-        left_to = w.left-to;
-        left_reach = omega (arith, w.left-reach);
-        right_from = w.right-from;
-        right_to = w.right-to;
-        right_reach = omega (arith, w.right-reach);
+        left_from = w.left_from;
+        left_to = w.left_to;
+        left_reach = omega (arith, w.left_reach);
+        right_from = w.right_from;
+        right_to = w.right_to;
+        right_reach = omega (arith, w.right_reach);
       }
 
   pub within_as : {rows rows' : List ℕ} → rows ≡ rows' → Within size left right rows l r → Within size left right rows' l r

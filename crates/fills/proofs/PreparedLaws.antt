@@ -50,7 +50,7 @@ module _ (m : Model) (windows : List ℕ) (t : Table) (p : Prepared m windows t)
 
   module _ (x : Tree) (rest : List ℕ) (parted : Parted routes (under x) rest) where
     spans_at_lem : spans_by t.totals windows (counts_at routes ws x) 0 m.chains ≡ spans_at routes ws x
-    spans_at_lem = spans_are routes ws ch (sym (length_windows p)) p.tabled.totals-are (take_is windows (length ws) (omega (arith, length_windows p, p.windows-long, p.guaranteed.chains-range)) ∙ ap (λ n. take n windows) (length_windows p)) x rest parted
+    spans_at_lem = spans_are routes ws ch (sym (length_windows p)) p.tabled.totals_are (take_is windows (length ws) (omega (arith, length_windows p, p.windows_long, p.guaranteed.chains_range)) ∙ ap (λ n. take n windows) (length_windows p)) x rest parted
 
   module _ (c : ℕ) (rest : List ℕ) (parted : Parted routes (under (leaf c)) rest) where
     in_range : (1 ≤ c) × (c ≤ m.centres)
@@ -60,9 +60,9 @@ module _ (m : Model) (windows : List ℕ) (t : Table) (p : Prepared m windows t)
     unfolding entry centre_at loads_of
     leaf_in start = record {
       few = few p;
-      centre_range = (in_range.0, omega (arith, in_range, p.guaranteed.centres-range));
-      loads_long = p.guaranteed.loads-long;
-      ends = rw (spans_at_lem (leaf c) rest parted) (leaf_ends routes ws (loads_of m c) c (omega (arith, length_windows p, p.guaranteed.chains-range)) (long c in_range ∙ sym (length_windows p)) low (route_at m p.guaranteed c in_range.0 in_range.1));
+      centre_range = (in_range.0, omega (arith, in_range, p.guaranteed.centres_range));
+      loads_long = p.guaranteed.loads_long;
+      ends = rw (spans_at_lem (leaf c) rest parted) (leaf_ends routes ws (loads_of m c) c (omega (arith, length_windows p, p.guaranteed.chains_range)) (long c in_range ∙ sym (length_windows p)) low (route_at m p.guaranteed c in_range.0 in_range.1));
       cells_are = ap cells (sym (spans_at_lem (leaf c) rest parted));
     }
       where
@@ -71,7 +71,7 @@ module _ (m : Model) (windows : List ℕ) (t : Table) (p : Prepared m windows t)
         long (suc c) r = length_loads m p.guaranteed c (omega arith)
 
         low : (k : ℕ) → get_or ws k 0 ≤ 15
-        low = take_low m.chains windows 15 p.windows-low
+        low = take_low m.chains windows 15 p.windows_low
 
     leaf_cells_lem : (start : ℕ) → leaf_cells m.loads ch (entry routes ws (leaf c) start) ≡ array_of routes ws (start_cell (centres_of m)) (leaf c, start)
     unfolding leaf_cells entry centre_at start_cell loads_of
@@ -102,7 +102,7 @@ module _ (m : Model) (windows : List ℕ) (t : Table) (p : Prepared m windows t)
   parted_at x k = parted_in routes ws (tree_of m) [] (parted_all p) 0 x k
 
   pub count_low : t.count ≤ length t.nodes
-  count_low = omega (arith, p.tabled.nodes-long, count_few p)
+  count_low = omega (arith, p.tabled.nodes_long, count_few p)
 
   -- the cells of the first i nodes
   cells_to : (i : ℕ) → i ≤ t.count → flat_map (node_cells m.loads ch) (take i t.nodes) ≡ flat_map (array_of routes ws (start_cell (centres_of m))) (take i nodes)

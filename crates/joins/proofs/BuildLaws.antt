@@ -109,17 +109,17 @@ module _ (windows lefts rights owns : List ℕ) (chains : Chains windows lefts r
     building_room =
         let q : k + 1 ≤ 8 = omega (arith, chains.few) in
         let p : 16 ^ (k + 1) ≤ 16 ^ 8 = pow-le-pow_right {n = 16} (omega arith) q in
-        record { loops_room = omega (arith, b.loops-used, chains.few, b.loops-length); rows_room = omega (arith, b.rows-used, chains.few, b.rows-length); window = chains.messages k; count_room = omega (arith, count_up, p) }
+        record { loops_room = omega (arith, b.loops_used, chains.few, b.loops_length); rows_room = omega (arith, b.rows_used, chains.few, b.rows-length); window = chains.messages k; count_room = omega (arith, count_up, p) }
 
     pub building_more : (L' R' : List ℕ) (v : Used) → length L' ≡ length L → length R' ≡ length R
         → (flat v L' R' ≡ add_chain (flat u L R) (get_or windows k 0) (get_or lefts k 0) (get_or rights k 0) (get_or owns k 0)) × Grown u v (get_or windows k 0) → Building windows lefts rights owns L' R' v (k + 1)
     unfolding add_chains
     building_more L' R' v el er e = record {
       most = omega arith;
-      loops_used = omega (arith, b.loops-used, e.1.loops);
-      rows_used = omega (arith, b.rows-used, e.1.rows);
+      loops_used = omega (arith, b.loops_used, e.1.loops);
+      rows_used = omega (arith, b.rows_used, e.1.rows);
       count_low = omega (arith, count_up, e.1.count);
-      loops_length = el ∙ b.loops-length;
+      loops_length = el ∙ b.loops_length;
       rows-length = er ∙ b.rows-length;
       whole = ap (λ f. add_chains f (drop (k + 1) windows) (drop (k + 1) lefts) (drop (k + 1) rights) (drop (k + 1) owns)) e.0 ∙ sym one_chain ∙ b.whole;
     }
@@ -127,14 +127,14 @@ module _ (windows lefts rights owns : List ℕ) (chains : Chains windows lefts r
         one_chain : add_chains (flat u L R) (drop k windows) (drop k lefts) (drop k rights) (drop k owns) ≡ add_chains (add_chain (flat u L R) (get_or windows k 0) (get_or lefts k 0) (get_or rights k 0) (get_or owns k 0)) (drop (k + 1) windows) (drop (k + 1) lefts) (drop (k + 1) rights) (drop (k + 1) owns)
         one_chain =
             let n = drop-cons windows k 0 h in
-            let x = drop-cons lefts k 0 (omega (arith, chains.lefts-length)) in
-            let y = drop-cons rights k 0 (omega (arith, chains.rights-length)) in
-            let z = drop-cons owns k 0 (omega (arith, chains.owns-length)) in
+            let x = drop-cons lefts k 0 (omega (arith, chains.lefts_length)) in
+            let y = drop-cons rights k 0 (omega (arith, chains.rights_length)) in
+            let z = drop-cons owns k 0 (omega (arith, chains.owns_length)) in
             rw (add-one k) (λ i. add_chains (flat u L R) (n i) (x i) (y i) (z i))
 
   pub built : (L R : List ℕ) (u : Used) (k : ℕ) → Building windows lefts rights owns L R u k → length windows ≤ k → (flat u L R ≡ add_chains nothing windows lefts rights owns) × (u.loops ≤ 40) × (u.rows ≤ 24)
   unfolding add_chains
-  built L R u k b h = (sym done ∙ b.whole, omega (arith, b.loops-used, b.most, chains.few), omega (arith, b.rows-used, b.most, chains.few))
+  built L R u k b h = (sym done ∙ b.whole, omega (arith, b.loops_used, b.most, chains.few), omega (arith, b.rows_used, b.most, chains.few))
     where
       done : add_chains (flat u L R) (drop k windows) (drop k lefts) (drop k rights) (drop k owns) ≡ flat u L R
       done = ap (λ ns. add_chains (flat u L R) ns (drop k lefts) (drop k rights) (drop k owns)) (drop_of_length-le windows h)

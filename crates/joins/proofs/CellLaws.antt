@@ -101,9 +101,9 @@ module _ (n : ℕ) (join : Join) (rows : List ℕ) (l r t : ℕ) (A : List ℕ) 
   unfolding Reach product
   adds =
       all_map (λ p q.
-      let a : join.left.from + p.0 < join.left.to = omega (arith, q.0, i.reads.left-reach) in
-      let b : join.right.from + p.1 < join.right.to = omega (arith, q.1, i.reads.right-reach) in
-      (omega (arith, i.left-before), omega (arith, i.right-before), (λ z. sym (part_at A join.left.from join.left.to p.0 a) z * sym (part_at A join.right.from join.right.to p.1 b) z)))
+      let a : join.left.from + p.0 < join.left.to = omega (arith, q.0, i.reads.left_reach) in
+      let b : join.right.from + p.1 < join.right.to = omega (arith, q.1, i.reads.right_reach) in
+      (omega (arith, i.left_before), omega (arith, i.right_before), (λ z. sym (part_at A join.left.from join.left.to p.0 a) z * sym (part_at A join.right.from join.right.to p.1 b) z)))
       (places_reach rows l r)
 
   pub cell_past : count ≤ q.skip → record { skip = q.skip - count; budget = q.budget; over = false; area = A } ≡ walk (cell_pairs join rows l r t) (state q A)
@@ -122,5 +122,5 @@ module _ (n : ℕ) (join : Join) (rows : List ℕ) (l r t : ℕ) (A : List ℕ) 
       let y : get_or A (join.own.from + t) 0 ≡ x = sym (ex ∙ part_at A join.own.from join.own.to t i.own_at) in
       rw (h, z, eo, put_set A join.own.from join.own.to t v i.own_at)
       (sym
-      (walk_sum join t (product A join.left join.right) (places rows l r) A q.budget x (omega (arith, i.own_at, i.own-to)) y adds told.low (omega (arith, counted))
+      (walk_sum join t (product A join.left join.right) (places rows l r) A q.budget x (omega (arith, i.own_at, i.own_to)) y adds told.low (omega (arith, counted))
       ∙ rw (← counted, ← told.is)))

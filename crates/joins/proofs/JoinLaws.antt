@@ -57,10 +57,10 @@ module _ {windows lefts rights owns : List ℕ} {parts : Join} {size : ℕ} (j :
 
   built : add_chains nothing windows lefts rights owns ≡ record { loops = loops 0 cs; rows = rows cs; count = 1 * ended cs }
   unfolding cs spans_at
-  built = (λ i. add_chains nothing windows (j.left-strides i) (j.right-strides i) (j.own-strides i)) ∙ chains_flat met windows nothing
+  built = (λ i. add_chains nothing windows (j.left_strides i) (j.right_strides i) (j.own_strides i)) ∙ chains_flat met windows nothing
 
   pub strides-length : (length lefts ≡ length windows) × (length rights ≡ length windows) × (length owns ≡ length windows)
-  strides-length = (ap length j.left-strides ∙ strided j.left, ap length j.right-strides ∙ strided j.right, ap length j.own-strides ∙ strided (join j.left j.right))
+  strides-length = (ap length j.left_strides ∙ strided j.left, ap length j.right_strides ∙ strided j.right, ap length j.own_strides ∙ strided (join j.left j.right))
     where
       strided : (t : Tree) → length (strides (spans_at j.routes windows t)) ≡ length windows
       strided t = length-strides (spans_at j.routes windows t) ∙ spans_length j.routes windows t
@@ -74,14 +74,14 @@ module _ {windows lefts rights owns : List ℕ} {parts : Join} {size : ℕ} (j :
       let own = base_room j.routes windows (join j.left j.right) j.start in
       let at = base-join j.routes windows j.left j.right j.start in
       record {
-        left_from = omega (arith, l, j.left-from, j.left-to);
-        left_to = omega (arith, own, at, j.left-to, j.room);
-        right_from = omega (arith, r, j.right-from, j.right-to);
-        right_to = omega (arith, own, at, j.right-to, j.room);
-        own_from = omega (arith, own, j.own-from, j.own-to);
-        own_to = omega (arith, j.own-to, j.room);
-        left_before = omega (arith, at, j.left-to, j.own-from);
-        right_before = omega (arith, at, j.right-to, j.own-from);
+        left_from = omega (arith, l, j.left_from, j.left_to);
+        left_to = omega (arith, own, at, j.left_to, j.room);
+        right_from = omega (arith, r, j.right_from, j.right_to);
+        right_to = omega (arith, own, at, j.right_to, j.room);
+        own_from = omega (arith, own, j.own_from, j.own_to);
+        own_to = omega (arith, j.own_to, j.room);
+        left_before = omega (arith, at, j.left_to, j.own_from);
+        right_before = omega (arith, at, j.right_to, j.own_from);
         low = h;
       }
 
@@ -90,9 +90,9 @@ module _ {windows lefts rights owns : List ℕ} {parts : Join} {size : ℕ} (j :
   bounds =
       let p : 16 ^ length windows ≤ 16 ^ 8 = pow-le-pow_right {n = 16} (omega arith) j.chains in
       record {
-        left_last = omega (arith, low.left, base_is j.routes windows j.left j.start, j.left-from, j.left-to);
-        right_last = omega (arith, low.right, base_is j.routes windows j.right (j.start + all_cells j.routes windows j.left), j.right-from, j.right-to);
-        own_last = omega (arith, low.own, base_is j.routes windows (join j.left j.right) j.start, j.own-from, j.own-to);
+        left_last = omega (arith, low.left, base_is j.routes windows j.left j.start, j.left_from, j.left_to);
+        right_last = omega (arith, low.right, base_is j.routes windows j.right (j.start + all_cells j.routes windows j.left), j.right_from, j.right_to);
+        own_last = omega (arith, low.own, base_is j.routes windows (join j.left j.right) j.start, j.own_from, j.own_to);
         counted = refl;
         count_low = rw (one-mul (ended cs)) (omega (arith, low.pairs, p));
         few = omega (arith, few);
@@ -113,9 +113,9 @@ module _ {windows lefts rights owns : List ℕ} {parts : Join} {size : ℕ} (j :
       ap (map (pair_at parts (0 + along (map own_stride cs) v))) (chains-places met windows v 0 0 same_length)
       ∙ map-map (pair_at parts (0 + along (map own_stride cs) v)) (placed (strides (zip_with span ls windows)) (strides (zip_with span rs windows)) 0 0) (index_pairs ls rs v)
       ∙ ap (λ f. map f (index_pairs ls rs v)) (fun_ext (λ p. λ i. record {
-        left = j.left-from i + zero-add (along (strides (zip_with span ls windows)) p.0) i;
-        right = j.right-from i + zero-add (along (strides (zip_with span rs windows)) p.1) i;
-        result = j.own-from i + (zero-add (along (map own_stride cs) v) ∙ ap (λ ss. along ss v) (chains-stride met windows)) i;
+        left = j.left_from i + zero-add (along (strides (zip_with span ls windows)) p.0) i;
+        right = j.right_from i + zero-add (along (strides (zip_with span rs windows)) p.1) i;
+        result = j.own_from i + (zero-add (along (map own_stride cs) v) ∙ ap (λ ss. along ss v) (chains-stride met windows)) i;
       }))
 
   pub own_list : loop_pairs parts (add_chains nothing windows lefts rights owns).loops (add_chains nothing windows lefts rights owns).rows 0 0 0 ≡ own_pairs j.routes windows j.left j.right j.start

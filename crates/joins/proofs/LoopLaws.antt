@@ -124,7 +124,7 @@ module _ (size : ℕ) (join : Join) (rows : List ℕ) (l r t count : ℕ) where
       let w = at.inside.reads in
       let f = sym (times_out (length rows) (length rows) count (i + 1) (le_refl (length rows))) in
       let g = set_out rows (length rows) (i + 1) (le_refl (length rows)) in (
-        rw (one_of_one i h l, one_of_one i h r, one_of_one i h t, f) (record { left_low = omega (arith, w.left-reach, w.left-to); right_low = omega (arith, w.right-reach, w.right-to); own_low = omega (arith, at.inside.own_at, at.inside.own-to); count_low = hc }),
+        rw (one_of_one i h l, one_of_one i h r, one_of_one i h t, f) (record { left_low = omega (arith, w.left_reach, w.left_to); right_low = omega (arith, w.right_reach, w.right_to); own_low = omega (arith, at.inside.own_at, at.inside.own_to); count_low = hc }),
         rw (one_of_one i h l, one_of_one i h r, one_of_one i h t, f, g) at,
       )
 

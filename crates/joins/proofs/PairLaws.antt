@@ -40,8 +40,8 @@ module _ (n : ℕ) (join : Join) (l r t x : ℕ) (q : Quota) (A : List ℕ) (i :
   sum_is : x + sum_over (places [] l r) (product A join.left join.right) ≡ sum_at A (pair_at join t (l, r))
   unfolding places sum_over product sum_at pair_at reach_left reach_right
   sum_is =
-      let a : get_or (cells_in A join.left) l 0 ≡ get_or A (join.left.from + l) 0 = part_at A join.left.from join.left.to l (omega (arith, i.reads.left-reach)) in
-      let b : get_or (cells_in A join.right) r 0 ≡ get_or A (join.right.from + r) 0 = part_at A join.right.from join.right.to r (omega (arith, i.reads.right-reach)) in
+      let a : get_or (cells_in A join.left) l 0 ≡ get_or A (join.left.from + l) 0 = part_at A join.left.from join.left.to l (omega (arith, i.reads.left_reach)) in
+      let b : get_or (cells_in A join.right) r 0 ≡ get_or A (join.right.from + r) 0 = part_at A join.right.from join.right.to r (omega (arith, i.reads.right_reach)) in
       let y : get_or (cells_in A join.own) t 0 ≡ get_or A (join.own.from + t) 0 = part_at A join.own.from join.own.to t i.own_at in
       let p : get_or (cells_in A join.left) l 0 * get_or (cells_in A join.right) r 0 ≡ get_or A (join.left.from + l) 0 * get_or A (join.right.from + r) 0 = λ z. a z * b z in
       omega (arith, own-cell, y, p)

@@ -147,13 +147,13 @@ pub record Bounds (join : Join) (gs : List Row) (cs : List Chain) (l r t count :
 module _ (n : ℕ) (join : Join) (parts : Parts n join) where
   -- places below the last ones fit a register
   low_left : (x y : ℕ) → join.left.from + (x + y) < join.left.to → x < 2 ^ 64
-  low_left x y h = omega (arith, parts.left-to, parts.low)
+  low_left x y h = omega (arith, parts.left_to, parts.low)
 
   low_right : (x y : ℕ) → join.right.from + (x + y) < join.right.to → x < 2 ^ 64
-  low_right x y h = omega (arith, parts.right-to, parts.low)
+  low_right x y h = omega (arith, parts.right_to, parts.low)
 
   low_own : (x y : ℕ) → join.own.from + (x + y) < join.own.to → x < 2 ^ 64
-  low_own x y h = omega (arith, parts.own-to, parts.low)
+  low_own x y h = omega (arith, parts.own_to, parts.low)
 
   move : {h h' g g' : List ℕ} (l l' r r' t w w' : ℕ) → h ≡ h' → g ≡ g' → l ≡ l' → r ≡ r' → w ≡ w' → Sound n join h' g' l' r' t w' → Sound n join h g l r t w
   move l l' r r' t w w' eh eg el er ew s = rw (eh, eg, el, er, ew) s
@@ -185,12 +185,12 @@ module _ (n : ℕ) (join : Join) (parts : Parts n join) where
       rw (append-nil (flat_rows gs))
       (record {
         inside = record {
-          reads = record { left_from = parts.left-from; left_to = parts.left-to; left_reach = omega (arith, k.left-last, f.0); right_from = parts.right-from; right_to = parts.right-to; right_reach = omega (arith, k.right-last, f.1) };
-          own_from = parts.own-from;
-          own_to = parts.own-to;
-          own_at = omega (arith, k.own-last);
-          left_before = parts.left-before;
-          right_before = parts.right-before;
+          reads = record { left_from = parts.left_from; left_to = parts.left_to; left_reach = omega (arith, k.left_last, f.0); right_from = parts.right_from; right_to = parts.right_to; right_reach = omega (arith, k.right_last, f.1) };
+          own_from = parts.own_from;
+          own_to = parts.own_to;
+          own_at = omega (arith, k.own_last);
+          left_before = parts.left_before;
+          right_before = parts.right_before;
         };
         counted = k.counted ∙ mul-one (pairs_in gs) ∙ sym (length-places gs l r);
       })
@@ -205,15 +205,15 @@ module _ (n : ℕ) (join : Join) (parts : Parts n join) where
       let el : l + i * 0 ≡ l = omega arith in
       let er : r + i * 0 ≡ r = omega arith in
       let wi : w * (i + 1) ≡ pairs_in gs * (i + 1) * ended cs = ap (λ z. z * (i + 1)) k.counted ∙ omega arith in
-      let ht : join.own.from + (t + i * c + more_own cs) < join.own.to = omega (arith, k.own-last) in (
-        rw (ew, el, er) (record { left_low = low_left l (last_left gs + (x * a + more_left cs)) (omega (arith, k.left-last)); right_low = low_right r (last_right gs + (x * b + more_right cs)) (omega (arith, k.right-last)); own_low = low_own (t + i * c) (more_own cs) ht; count_low = factor_low (w * (i + 1)) (most cs) (most_pos cs) hw }),
+      let ht : join.own.from + (t + i * c + more_own cs) < join.own.to = omega (arith, k.own_last) in (
+        rw (ew, el, er) (record { left_low = low_left l (last_left gs + (x * a + more_left cs)) (omega (arith, k.left_last)); right_low = low_right r (last_right gs + (x * b + more_right cs)) (omega (arith, k.right_last)); own_low = low_own (t + i * c) (more_own cs) ht; count_low = factor_low (w * (i + 1)) (most cs) (most_pos cs) hw }),
         move (l + i * 0) l (r + i * 0) r (t + i * c) (times (ltb at (length g)) w (i + 1)) (w * (i + 1)) (ap (λ z. loops z cs) (row_length gs (i + 1) a b)) (set-append_seam (flat_rows gs) 1 (a ∷ b ∷ rows cs) (i + 1) ∙ row_list gs (i + 1) a b (rows cs)) el er ew
-            (chains_sound cs (gs ++ ((i + 1, a, b) ∷ [])) l r (t + i * c) (w * (i + 1)) (row_settled gs cs l r (t + i * c) (w * (i + 1)) i x a b le k.left-last k.right-last ht wi hw k.few)),
+            (chains_sound cs (gs ++ ((i + 1, a, b) ∷ [])) l r (t + i * c) (w * (i + 1)) (row_settled gs cs l r (t + i * c) (w * (i + 1)) i x a b le k.left_last k.right_last ht wi hw k.few)),
       )
   chains_sound (ends x a b ∷ cs) gs l r t w k =
       let wi : w ≡ pairs_in gs * (x + 1) * ended cs = k.counted ∙ omega arith in
       move l l r r t w w (ap (λ z. loops z cs) (row_length gs (x + 1) a b)) (row_list gs (x + 1) a b (rows cs)) refl refl refl
-      (chains_sound cs (gs ++ ((x + 1, a, b) ∷ [])) l r t w (row_settled gs cs l r t w x x a b (le_refl x) k.left-last k.right-last k.own-last wi k.count_low k.few))
+      (chains_sound cs (gs ++ ((x + 1, a, b) ∷ [])) l r t w (row_settled gs cs l r t w x x a b (le_refl x) k.left_last k.right_last k.own_last wi k.count_low k.few))
   chains_sound (one x a b c ∷ cs) gs l r t w k = λ i h.
       let g = flat_rows gs ++ rows cs in
       let le : i ≤ x = omega arith in
@@ -222,11 +222,11 @@ module _ (n : ℕ) (join : Join) (parts : Parts n join) where
       let ia : i * a ≤ x * a = mul-le-mul_right a le in
       let ib : i * b ≤ x * b = mul-le-mul_right b le in
       let ic : i * c ≤ x * c = mul-le-mul_right c le in
-      let hl : join.left.from + (l + i * a + last_left gs + more_left cs) < join.left.to = omega (arith, k.left-last) in
-      let hr : join.right.from + (r + i * b + last_right gs + more_right cs) < join.right.to = omega (arith, k.right-last) in
-      let ht : join.own.from + (t + i * c + more_own cs) < join.own.to = omega (arith, k.own-last) in (
+      let hl : join.left.from + (l + i * a + last_left gs + more_left cs) < join.left.to = omega (arith, k.left_last) in
+      let hr : join.right.from + (r + i * b + last_right gs + more_right cs) < join.right.to = omega (arith, k.right_last) in
+      let ht : join.own.from + (t + i * c + more_own cs) < join.own.to = omega (arith, k.own_last) in (
         rw ew (record { left_low = low_left (l + i * a) (last_left gs + more_left cs) (omega (arith, hl)); right_low = low_right (r + i * b) (last_right gs + more_right cs) (omega (arith, hr)); own_low = low_own (t + i * c) (more_own cs) ht; count_low = factor_low w (most cs) (most_pos cs) k.count_low }),
         move {h = loops (length (flat_rows gs)) cs} (l + i * a) (l + i * a) (r + i * b) (r + i * b) (t + i * c) (times (ltb unshared (length g)) w (i + 1)) w refl (set_out g unshared (i + 1) len) refl refl ew
             (chains_sound cs gs (l + i * a) (r + i * b) (t + i * c) w (record { left_last = hl; right_last = hr; own_last = ht; counted = k.counted; count_low = k.count_low; few = k.few })),
       )
-  chains_sound (still i ∷ cs) gs l r t w k = chains_sound cs gs l r t w (record { left_last = k.left-last; right_last = k.right-last; own_last = k.own-last; counted = k.counted; count_low = k.count_low; few = k.few })
+  chains_sound (still i ∷ cs) gs l r t w k = chains_sound cs gs l r t w (record { left_last = k.left_last; right_last = k.right_last; own_last = k.own_last; counted = k.counted; count_low = k.count_low; few = k.few })

@@ -115,10 +115,10 @@ row_none join rows l r t s u h e = e ∙ ap (λ ps. walk (map (pair_at join t) p
 
 module _ {n : ℕ} {join : Join} {l r t : ℕ} where
   pub inside_none : {rows : List ℕ} → Inside n join rows l r t → Inside n join [] l r t
-  inside_none i = record { reads = within_none i.reads; own_from = i.own-from; own_to = i.own-to; own_at = i.own_at; left_before = i.left-before; right_before = i.right-before }
+  inside_none i = record { reads = within_none i.reads; own_from = i.own_from; own_to = i.own_to; own_at = i.own_at; left_before = i.left_before; right_before = i.right_before }
 
   pub inside_as : {rows rows' : List ℕ} → rows ≡ rows' → Inside n join rows l r t → Inside n join rows' l r t
   inside_as e i = rw (← e) i
 
   pub inside_turn : {m a b : ℕ} {rows : List ℕ} (size : ℕ) → size ≡ n → Inside n join (m ∷ a ∷ b ∷ rows) l r t → (j : ℕ) → j < m → Inside size join rows (l + j * a) (r + (m - 1 - j) * b) t
-  inside_turn size e i j h = rw e (record { reads = within_turn i.reads j h; own_from = i.own-from; own_to = i.own-to; own_at = i.own_at; left_before = i.left-before; right_before = i.right-before })
+  inside_turn size e i j h = rw e (record { reads = within_turn i.reads j h; own_from = i.own_from; own_to = i.own_to; own_at = i.own_at; left_before = i.left_before; right_before = i.right_before })

@@ -89,17 +89,17 @@ first_visited m s f e k h =
   where
     by : (c : ℕ) → (get_or m.loads (c * 8 + k) 0 ≡ 0 → ⊥) → (t : Bool) → ltb c m.centres ≡ t → c < m.centres
     by c n true a = ltb-true c m.centres a
-    by c n false a = absurd (n (f.loads-inside c k (omega (arith, s.chains-few)) (ltb-false c m.centres a)))
+    by c n false a = absurd (n (f.loads_inside c k (omega (arith, s.chains_few)) (ltb-false c m.centres a)))
 
 pub kept_step : Keeps (λ at m. Kept m)
 unfolding with_size with_window with_load with_leaf with_join
 kept_step at m to n v (Taken.size c k z wc wk) =
     let o = v.ordered in
-    let none = o.nodes-none z in
+    let none = o.nodes_none z in
     record {
       sound = sound_kept at m to n v.sound (Taken.size c k z wc wk);
-      ordered = record { chains_none = λ e. absurd (omega arith); nodes_none = λ e. none; chains_some = λ h. wk.low; given_few = omega (arith, o.chains-none z, o.given-few); given_all = λ h. absurd (omega arith) };
-      filled = record { window_range = v.filled.window-range; load_range = v.filled.load-range; loads_inside = λ i j h l. v.filled.loads-inside i j h (omega arith) };
+      ordered = record { chains_none = λ e. absurd (omega arith); nodes_none = λ e. none; chains_some = λ h. wk.low; given_few = omega (arith, o.chains_none z, o.given_few); given_all = λ h. absurd (omega arith) };
+      filled = record { window_range = v.filled.window_range; load_range = v.filled.load_range; loads_inside = λ i j h l. v.filled.loads_inside i j h (omega arith) };
       visited = λ h. absurd (omega arith);
       growing = record { unplaced = λ i h. v.growing.unplaced i (omega arith); counted = v.growing.counted; flagged = v.growing.flagged };
     }
@@ -107,8 +107,8 @@ kept_step at m to n v (Taken.window w h r) =
     let o = v.ordered in
     record {
       sound = sound_kept at m to n v.sound (Taken.window w h r);
-      ordered = record { chains_none = o.chains-none; nodes_none = o.nodes-none; chains_some = o.chains-some; given_few = omega arith; given_all = λ l. omega (arith, o.given-all l) };
-      filled = record { window_range = set_range m.windows m.given w 15 r v.filled.window-range; load_range = v.filled.load-range; loads_inside = v.filled.loads-inside };
+      ordered = record { chains_none = o.chains_none; nodes_none = o.nodes_none; chains_some = o.chains_some; given_few = omega arith; given_all = λ l. omega (arith, o.given_all l) };
+      filled = record { window_range = set_range m.windows m.given w 15 r v.filled.window_range; load_range = v.filled.load_range; loads_inside = v.filled.loads_inside };
       visited = v.visited;
       growing = v.growing;
     }
@@ -118,9 +118,9 @@ kept_step at m to n v (Taken.load c k l z wc wk wl p) =
       ordered = v.ordered;
       filled =
           record {
-            window_range = v.filled.window-range;
-            load_range = set_range m.loads (slot c k) l 65535 wl.high v.filled.load-range;
-            loads_inside = λ i j h g. get_or-set_other m.loads (slot c k) (i * 8 + j) l 0 (λ e. omega (arith, e, v.sound.chains-few)) ∙ v.filled.loads-inside i j h g;
+            window_range = v.filled.window_range;
+            load_range = set_range m.loads (slot c k) l 65535 wl.high v.filled.load_range;
+            loads_inside = λ i j h g. get_or-set_other m.loads (slot c k) (i * 8 + j) l 0 (λ e. omega (arith, e, v.sound.chains_few)) ∙ v.filled.loads_inside i j h g;
           };
       visited = λ h. absurd (omega arith);
       growing = v.growing;
@@ -130,10 +130,10 @@ kept_step at m to n v (Taken.leaf c g w u e) =
     let o = v.ordered in
     record {
       sound = sound_kept at m to n s (Taken.leaf c g w u e);
-      ordered = record { chains_none = o.chains-none; nodes_none = λ z. absurd (omega arith); chains_some = o.chains-some; given_few = o.given-few; given_all = λ h. g };
+      ordered = record { chains_none = o.chains_none; nodes_none = λ z. absurd (omega arith); chains_some = o.chains_some; given_few = o.given_few; given_all = λ h. g };
       filled = v.filled;
       visited = λ h. seen m.count refl;
-      growing = growing_leaf v.growing (omega (arith, leaf_room m s c w e, s.nodes-long)) c w.low w.high (omega (arith, s.placed-long, s.centres-few)) e;
+      growing = growing_leaf v.growing (omega (arith, leaf_room m s c w e, s.nodes_long)) c w.low w.high (omega (arith, s.placed_long, s.centres_few)) e;
     }
   where
     seen : (k : ℕ) → m.count ≡ k → Visited m.centres m.chains m.loads
@@ -144,10 +144,10 @@ kept_step at m to n v (Taken.join a h) =
     let o = v.ordered in
     record {
       sound = sound_kept at m to n s (Taken.join a h);
-      ordered = record { chains_none = o.chains-none; nodes_none = λ z. absurd (omega (arith, o.nodes-none z)); chains_some = o.chains-some; given_few = o.given-few; given_all = λ k. o.given-all a };
+      ordered = record { chains_none = o.chains_none; nodes_none = λ z. absurd (omega (arith, o.nodes_none z)); chains_some = o.chains_some; given_few = o.given_few; given_all = λ k. o.given_all a };
       filled = v.filled;
       visited = λ k. v.visited a;
-      growing = growing_join v.growing (omega (arith, join_room m s h, s.nodes-long)) h;
+      growing = growing_join v.growing (omega (arith, join_room m s h, s.nodes_long)) h;
     }
 
 -- ---- the end
@@ -159,21 +159,21 @@ guaranteed m v d =
     let o = v.ordered in
     let S = subtrees [] (take m.count m.nodes) in
     let one : S ≡ latest S ∷ [] = one_latest S (v.growing.counted ∙ d.one_left) in
-    let all : in_tree 1 m.placed ≡ from 1 m.centres = in_tree_all 1 m.placed m.centres (omega (arith, s.placed-long, s.centres-few)) (λ i h. eqb-false _ _ (none_below (λ c. eqb (get_or m.placed c 0) 0) m.centres d.all_placed i h)) v.growing.unplaced in
-    let count : m.count + 1 ≡ 2 * m.centres = omega (arith, s.nodes-few, d.one_left, ap length all, length_from 1 m.centres) in
+    let all : in_tree 1 m.placed ≡ from 1 m.centres = in_tree_all 1 m.placed m.centres (omega (arith, s.placed_long, s.centres_few)) (λ i h. eqb-false _ _ (none_below (λ c. eqb (get_or m.placed c 0) 0) m.centres d.all_placed i h)) v.growing.unplaced in
+    let count : m.count + 1 ≡ 2 * m.centres = omega (arith, s.nodes_few, d.one_left, ap length all, length_from 1 m.centres) in
     record {
-      centres_range = (d.centres-some, s.centres-few);
-      chains_range = (o.chains-some d.centres-some, s.chains-few);
-      windows_given = omega (arith, o.given-few, d.windows-given);
-      windows_long = s.windows-long;
-      window_range = v.filled.window-range;
-      loads_long = s.loads-long;
-      load_range = v.filled.load-range;
-      loads_inside = v.filled.loads-inside;
-      visited = v.visited d.nodes-some;
-      nodes_long = s.nodes-long;
+      centres_range = (d.centres_some, s.centres_few);
+      chains_range = (o.chains_some d.centres_some, s.chains_few);
+      windows_given = omega (arith, o.given_few, d.windows_given);
+      windows_long = s.windows_long;
+      window_range = v.filled.window_range;
+      loads_long = s.loads_long;
+      load_range = v.filled.load_range;
+      loads_inside = v.filled.loads_inside;
+      visited = v.visited d.nodes_some;
+      nodes_long = s.nodes_long;
       count_is = count;
-      count_range = omega (arith, s.centres-few);
+      count_range = omega (arith, s.centres_few);
       one_tree = one;
       leaves = subst (λ cs. Permᴰ (under (latest S)) cs) all (subst (λ T. Permᴰ (all_under T) (in_tree 1 m.placed)) one v.growing.flagged);
     }

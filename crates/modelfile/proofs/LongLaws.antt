@@ -39,28 +39,28 @@ near_empty = record { kept = kept_empty; start = λ e. refl; slots = omega arith
 near_step : Keeps Near
 unfolding with_size with_window with_load with_leaf with_join
 near_step at m to n v (Taken.size c k z wc wk) =
-    record { kept = kept_step at m to n v.kept (Taken.size c k z wc wk); start = λ e. absurd (omega arith); slots = v.slots; trees_some = v.trees-some; place = omega (arith, v.start z) }
+    record { kept = kept_step at m to n v.kept (Taken.size c k z wc wk); start = λ e. absurd (omega arith); slots = v.slots; trees_some = v.trees_some; place = omega (arith, v.start z) }
 near_step at m to n v (Taken.window w h r) =
-    record { kept = kept_step at m to n v.kept (Taken.window w h r); start = λ e. absurd (omega (arith, v.kept.ordered.chains-none e)); slots = v.slots; trees_some = v.trees-some; place = omega (arith, v.place) }
+    record { kept = kept_step at m to n v.kept (Taken.window w h r); start = λ e. absurd (omega (arith, v.kept.ordered.chains_none e)); slots = v.slots; trees_some = v.trees_some; place = omega (arith, v.place) }
 near_step at m to n v (Taken.load c k l z wc wk wl p) =
-    record { kept = kept_step at m to n v.kept (Taken.load c k l z wc wk wl p); start = λ e. absurd (omega arith); slots = omega (arith, slot_room m v.kept.sound c k wc wk); trees_some = v.trees-some; place = omega (arith, v.place) }
+    record { kept = kept_step at m to n v.kept (Taken.load c k l z wc wk wl p); start = λ e. absurd (omega arith); slots = omega (arith, slot_room m v.kept.sound c k wc wk); trees_some = v.trees_some; place = omega (arith, v.place) }
 near_step at m to n v (Taken.leaf c g w u e) =
     record { kept = kept_step at m to n v.kept (Taken.leaf c g w u e); start = λ z. absurd (omega arith); slots = v.slots; trees_some = λ h. omega arith; place = omega (arith, v.place, leaf_more m v.kept.sound c w e) }
 near_step at m to n v (Taken.join a h) =
-    record { kept = kept_step at m to n v.kept (Taken.join a h); start = λ z. absurd (omega (arith, v.kept.ordered.nodes-none z)); slots = v.slots; trees_some = λ k. omega arith; place = omega (arith, v.place) }
+    record { kept = kept_step at m to n v.kept (Taken.join a h); start = λ z. absurd (omega (arith, v.kept.ordered.nodes_none z)); slots = v.slots; trees_some = λ k. omega arith; place = omega (arith, v.place) }
 
 -- every record begins at 714 or before
 module _ (at : ℕ) (m : Model) (v : Near at m) where
   -- the parts of `place`, each with its largest value
   near_sum : at ≤ 683 + m.count
-  near_sum = omega (arith, v.place, v.slots, v.kept.ordered.given-few, v.kept.sound.chains-few, in_tree_few 1 m.placed, v.kept.sound.placed-long)
+  near_sum = omega (arith, v.place, v.slots, v.kept.ordered.given_few, v.kept.sound.chains_few, in_tree_few 1 m.placed, v.kept.sound.placed_long)
 
   near_place : at ≤ 714
   near_place = by m.count refl
     where
       by : (k : ℕ) → m.count ≡ k → at ≤ 714
       by zero e = omega (arith, near_sum)
-      by (suc k) e = omega (arith, near_sum, v.trees-some (omega arith), v.kept.sound.nodes-few, in_tree_few 1 m.placed, v.kept.sound.placed-long)
+      by (suc k) e = omega (arith, near_sum, v.trees_some (omega arith), v.kept.sound.nodes_few, in_tree_few 1 m.placed, v.kept.sound.placed_long)
 
 pub accepted_short : (file : List ℕ) → (read_file file).verdict ≡ Verdict.Accepted → length file ≤ 715
 accepted_short file e = let r = reached Near near_step near_empty file e in omega (arith, r.last, near_place _ _ r.kept)
@@ -75,7 +75,7 @@ near_room at m kind v (Due.window s w) = by m.count refl
   where
     by : (k : ℕ) → m.count ≡ k → at + 2 < 716
     by zero e = omega (arith, near_sum at m v)
-    by (suc k) e = absurd (omega (arith, v.kept.ordered.given-all (omega arith)))
+    by (suc k) e = absurd (omega (arith, v.kept.ordered.given_all (omega arith)))
 near_room at m kind v (Due.load s w z) = omega (arith, near_sum at m v)
 near_room at m kind v (Due.leaf s w) = omega (arith, near_place at m v)
 near_room at m kind v (Due.join s w n) = omega (arith, near_place at m v)

@@ -34,7 +34,7 @@ begun_step at m to n i (Taken.join a b) = record { begun = λ h. omega (arith, i
 
 pub first_inside : (file : List ℕ) → (read_file file).verdict ≡ Verdict.Accepted → (read_file file).model.first + 3 ≤ length file
 unfolding empty_model
-first_inside file e = let r = reached Begun begun_step (record { begun = λ h. absurd (omega arith) }) file e in omega (arith, r.kept.begun r.ended.nodes-some, r.last)
+first_inside file e = let r = reached Begun begun_step (record { begun = λ h. absurd (omega arith) }) file e in omega (arith, r.kept.begun r.ended.nodes_some, r.last)
 
 pub part_refused : (file : List ℕ) (number place : ℕ) → (read_file file).verdict ≡ Verdict.Refused number place → tree_part file ≡ []
 unfolding tree_part

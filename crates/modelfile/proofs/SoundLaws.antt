@@ -30,59 +30,59 @@ module _ (m : Model) (s : Sound m) where
   -- ---- room for what a record adds
 
   pub window_room : m.given < m.chains → m.given < 8
-  window_room h = omega (arith, s.chains-few)
+  window_room h = omega (arith, s.chains_few)
 
   pub slot_room : (c k : ℕ) → Within 1 m.centres c → Within 1 m.chains k → slot c k < 128
-  slot_room c k wc wk = omega (arith, s.centres-few, s.chains-few)
+  slot_room c k wc wk = omega (arith, s.centres_few, s.chains_few)
 
   -- one centre more is in the tree
   pub leaf_more : (c : ℕ) → Within 1 m.centres c → get_or m.placed (c - 1) 0 ≡ 0 → length (in_tree 1 (set m.placed (c - 1) 1)) ≡ suc (length (in_tree 1 m.placed))
-  leaf_more c w e = in_tree_more 1 m.placed (c - 1) (omega (arith, s.placed-long, s.centres-few)) e
+  leaf_more c w e = in_tree_more 1 m.placed (c - 1) (omega (arith, s.placed_long, s.centres_few)) e
 
   pub leaf_room : (c : ℕ) → Within 1 m.centres c → get_or m.placed (c - 1) 0 ≡ 0 → m.count + m.trees ≤ 30
-  leaf_room c w e = omega (arith, s.nodes-few, s.placed-long, leaf_more c w e, in_tree_few 1 (set m.placed (c - 1) 1), length-set m.placed (c - 1) 1)
+  leaf_room c w e = omega (arith, s.nodes_few, s.placed_long, leaf_more c w e, in_tree_few 1 (set m.placed (c - 1) 1), length-set m.placed (c - 1) 1)
 
   pub join_room : 2 ≤ m.trees → m.count ≤ 30
-  join_room h = omega (arith, s.nodes-few, s.placed-long, in_tree_few 1 m.placed)
+  join_room h = omega (arith, s.nodes_few, s.placed_long, in_tree_few 1 m.placed)
 
   -- ---- what each record keeps
 
   pub sound_size : (c k : ℕ) → c ≤ 16 → k ≤ 8 → Sound (with_size m c k)
   unfolding with_size
-  sound_size c k hc hk = record { centres_few = hc; chains_few = hk; windows_long = s.windows-long; loads_long = s.loads-long; nodes_long = s.nodes-long; placed_long = s.placed-long; nodes_few = s.nodes-few }
+  sound_size c k hc hk = record { centres_few = hc; chains_few = hk; windows_long = s.windows_long; loads_long = s.loads_long; nodes_long = s.nodes_long; placed_long = s.placed_long; nodes_few = s.nodes_few }
 
   pub sound_window : (n : ℕ) → Sound (with_window m n)
   unfolding with_window
-  sound_window n = record { centres_few = s.centres-few; chains_few = s.chains-few; windows_long = length-set m.windows m.given n ∙ s.windows-long; loads_long = s.loads-long; nodes_long = s.nodes-long; placed_long = s.placed-long; nodes_few = s.nodes-few }
+  sound_window n = record { centres_few = s.centres_few; chains_few = s.chains_few; windows_long = length-set m.windows m.given n ∙ s.windows_long; loads_long = s.loads_long; nodes_long = s.nodes_long; placed_long = s.placed_long; nodes_few = s.nodes_few }
 
   pub sound_load : (c k l : ℕ) → Sound (with_load m c k l)
   unfolding with_load
-  sound_load c k l = record { centres_few = s.centres-few; chains_few = s.chains-few; windows_long = s.windows-long; loads_long = length-set m.loads (slot c k) l ∙ s.loads-long; nodes_long = s.nodes-long; placed_long = s.placed-long; nodes_few = s.nodes-few }
+  sound_load c k l = record { centres_few = s.centres_few; chains_few = s.chains_few; windows_long = s.windows_long; loads_long = length-set m.loads (slot c k) l ∙ s.loads_long; nodes_long = s.nodes_long; placed_long = s.placed_long; nodes_few = s.nodes_few }
 
   pub sound_leaf : (at c : ℕ) → Within 1 m.centres c → get_or m.placed (c - 1) 0 ≡ 0 → Sound (with_leaf m at c)
   unfolding with_leaf
   sound_leaf at c w e =
       record {
-        centres_few = s.centres-few;
-        chains_few = s.chains-few;
-        windows_long = s.windows-long;
-        loads_long = s.loads-long;
-        nodes_long = length-set m.nodes m.count c ∙ s.nodes-long;
-        placed_long = length-set m.placed (c - 1) 1 ∙ s.placed-long;
-        nodes_few = omega (arith, leaf_more c w e, s.nodes-few);
+        centres_few = s.centres_few;
+        chains_few = s.chains_few;
+        windows_long = s.windows_long;
+        loads_long = s.loads_long;
+        nodes_long = length-set m.nodes m.count c ∙ s.nodes_long;
+        placed_long = length-set m.placed (c - 1) 1 ∙ s.placed_long;
+        nodes_few = omega (arith, leaf_more c w e, s.nodes_few);
       }
 
   pub sound_join : 2 ≤ m.trees → Sound (with_join m)
   unfolding with_join
   sound_join h =
       record {
-        centres_few = s.centres-few;
-        chains_few = s.chains-few;
-        windows_long = s.windows-long;
-        loads_long = s.loads-long;
-        nodes_long = length-set m.nodes m.count 0 ∙ s.nodes-long;
-        placed_long = s.placed-long;
-        nodes_few = omega (arith, s.nodes-few);
+        centres_few = s.centres_few;
+        chains_few = s.chains_few;
+        windows_long = s.windows_long;
+        loads_long = s.loads_long;
+        nodes_long = length-set m.nodes m.count 0 ∙ s.nodes_long;
+        placed_long = s.placed_long;
+        nodes_few = omega (arith, s.nodes_few);
       }
 
 pub sound_kept : Keeps (λ at m. Sound m)

@@ -75,6 +75,10 @@ fits-merge (Fits.free a f) (Fits.free b g) (Split.more {n = n} p s) = Fits.free 
 fits-merge (Fits.free a f) (Fits.bare g) (Split.more {n = n} p s) = Fits.free n (fits-merge f g s)
 fits-merge (Fits.bare f) (Fits.free b g) (Split.more {n = n} p s) = Fits.free n (fits-merge f g s)
 fits-merge (Fits.bare {r = c} f) (Fits.bare {r = d} g) (Split.more {v = v} p s) = subst (λ n. Fits (false ∷ merge c d) (n ∷ v)) p (Fits.bare (fits-merge f g s))
+fits-merge Fits.none (Fits.free b g) s = elim s [ ]
+fits-merge Fits.none (Fits.bare g) s = elim s [ ]
+fits-merge (Fits.free a f) Fits.none s = elim s [ ]
+fits-merge (Fits.bare f) Fits.none s = elim s [ ]
 
 -- what fits together comes from two parts
 pub record Parts (c d : List Bool) (v : List ℕ) : Type 0 where

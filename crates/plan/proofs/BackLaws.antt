@@ -43,7 +43,7 @@ module _ (totals windows counts : List ℕ) (chains : ℕ) where
           low = omega arith;
           long = length-set s j t ∙ w.long;
           cells_are = rw (d, ez, e, w.cells_are);
-          strides_are = rw d (ap (λ l. set l j t) w.strides-are ∙ back_more j t _ ∙ ap (λ x. replicate j 0 ++ (x ∷ padded chains (strides (spans_by totals windows counts (suc j) (chains - suc j))))) (et ∙ rw (e, w.cells_are)));
+          strides_are = rw d (ap (λ l. set l j t) w.strides_are ∙ back_more j t _ ∙ ap (λ x. replicate j 0 ++ (x ∷ padded chains (strides (spans_by totals windows counts (suc j) (chains - suc j))))) (et ∙ rw (e, w.cells_are)));
         }
 
   -- the same as the code has it: k was one more than j
@@ -92,7 +92,7 @@ unfolding shape_by
 shape_is ch counts {k} {c} {s} w h =
     let z : k ≡ 0 = omega arith in
     let d : ch.count - 0 ≡ ch.count = omega arith in
-    λ i. record { cells = (rw (z, d) at w.cells_are) i; strides = (rw (z, d) at w.strides-are) i }
+    λ i. record { cells = (rw (z, d) at w.cells_are) i; strides = (rw (z, d) at w.strides_are) i }
 
 pub pairs_are : (ch : Chains) (ls rs js : List ℕ) {k p : ℕ} → Product ch.totals ch.windows ls rs js ch.count k p → k ≤ 0 → p ≡ pairs_by ch ls rs js
 unfolding pairs_by

@@ -39,12 +39,12 @@ use Rattle.plan.proofs.ModelLaws.{loads_agree, tree_count}
 module _ (ch : Chains) (few : Few ch) (loads : List ℕ) (t : Table) where
   made_cells : (x : ℕ) → (node_made ch loads t x).cells ≤ 2 ^ 32
   unfolding node_made node_by node_leaf node_joined shape_by
-  made_cells zero = cells_few ch.windows few.window-range ch.totals _ 0 ch.count few.chains-few
-  made_cells (suc c) = cells_few ch.windows few.window-range ch.totals _ 0 ch.count few.chains-few
+  made_cells zero = cells_few ch.windows few.window_range ch.totals _ 0 ch.count few.chains_few
+  made_cells (suc c) = cells_few ch.windows few.window_range ch.totals _ 0 ch.count few.chains_few
 
   made_pairs : (x : ℕ) → (node_made ch loads t x).pairs ≤ 136 ^ 8
   unfolding node_made node_by node_leaf node_joined pairs_by
-  made_pairs zero = factors_few ch.windows few.window-range ch.totals _ _ _ 0 ch.count few.chains-few
+  made_pairs zero = factors_few ch.windows few.window_range ch.totals _ _ _ 0 ch.count few.chains_few
   made_pairs (suc c) = omega arith
 
 -- ---- one node more
@@ -75,21 +75,21 @@ unfolding with_node entry
 standing_more {m} {windows} t e {S} s f h =
     record {
       long = length-set t.nodes t.count e ∙ s.long;
-      count_is = omega (arith, s.count-is, f.count-more);
+      count_is = omega (arith, s.count_is, f.count_more);
       few = omega arith;
-      totals_are = s.totals-are;
+      totals_are = s.totals_are;
       nodes_are =
           ap (λ n. take n (set t.nodes t.count e)) (add-one t.count)
           ∙ take-suc-set t.nodes t.count e (omega (arith, s.long))
-          ∙ (λ i. s.nodes-are i ++ (f.made i ∷ []))
-          ∙ sym f.nodes-more;
-      cells_are = omega (arith, s.cells_are, ap (λ (n : Node). n.cells) f.made, f.cells-more);
-      pairs_are = omega (arith, s.pairs-are, ap (λ (n : Node). n.pairs) f.made, f.pairs-more);
+          ∙ (λ i. s.nodes_are i ++ (f.made i ∷ []))
+          ∙ sym f.nodes_more;
+      cells_are = omega (arith, s.cells_are, ap (λ (n : Node). n.cells) f.made, f.cells_more);
+      pairs_are = omega (arith, s.pairs_are, ap (λ (n : Node). n.pairs) f.made, f.pairs_more);
     }
 
 module _ (m : Model) (g : Guaranteed m) (windows : List ℕ) (long : length windows ≡ 8) where
   windows_count : length (windows_in m windows) ≡ m.chains
-  windows_count = length-take-le m.chains windows (omega (arith, g.chains-range.1))
+  windows_count = length-take-le m.chains windows (omega (arith, g.chains_range.1))
 
   entry_small : (t : Tree) (b : ℕ) → nodes_in t ≤ 31 → Small (entry (routes_in m) (windows_in m windows) t b)
   unfolding entry counts_at
@@ -103,14 +103,14 @@ module _ (m : Model) (g : Guaranteed m) (windows : List ℕ) (long : length wind
   module _ (t : Table) (l r : Tree) (S : List Tree) (s : Standing m windows t (r ∷ l ∷ S)) where
     children_some : nodes_in r < t.count
     unfolding nodes_of
-    children_some = omega (arith, s.count-is, nodes_under l)
+    children_some = omega (arith, s.count_is, nodes_under l)
 
     children_right : right_of t ≡ entry (routes_in m) (windows_in m windows) r (forest_cells (routes_in m) (windows_in m windows) (l ∷ S))
     unfolding right_of
     children_right =
         sym (get_or-take t.count t.nodes (t.count - 1) no_node (omega (arith, children_some)))
-        ∙ ap (λ es. get_or es (t.count - 1) no_node) s.nodes-are
-        ∙ right_found (routes_in m) (windows_in m windows) l r S t.count s.count-is
+        ∙ ap (λ es. get_or es (t.count - 1) no_node) s.nodes_are
+        ∙ right_found (routes_in m) (windows_in m windows) l r S t.count s.count_is
 
     right_span : (right_of t).span ≡ nodes_in r
     unfolding entry
@@ -121,8 +121,8 @@ module _ (m : Model) (g : Guaranteed m) (windows : List ℕ) (long : length wind
     children_left =
         ap (λ n. get_or t.nodes (t.count - 1 - n) no_node) right_span
         ∙ sym (get_or-take t.count t.nodes (t.count - 1 - nodes_in r) no_node (omega (arith, children_some)))
-        ∙ ap (λ es. get_or es (t.count - 1 - nodes_in r) no_node) s.nodes-are
-        ∙ left_found (routes_in m) (windows_in m windows) l r S t.count s.count-is
+        ∙ ap (λ es. get_or es (t.count - 1 - nodes_in r) no_node) s.nodes_are
+        ∙ left_found (routes_in m) (windows_in m windows) l r S t.count s.count_is
 
     join-ready : Ready t 0
     unfolding nodes_of
@@ -130,8 +130,8 @@ module _ (m : Model) (g : Guaranteed m) (windows : List ℕ) (long : length wind
         record {
           few = s.few;
           leaf_range = omega arith;
-          left_small = λ z. subst Small (sym children_left) (entry_small l _ (omega (arith, s.count-is, s.few)));
-          right_small = λ z. subst Small (sym children_right) (entry_small r _ (omega (arith, s.count-is, s.few)));
+          left_small = λ z. subst Small (sym children_left) (entry_small l _ (omega (arith, s.count_is, s.few)));
+          right_small = λ z. subst Small (sym children_right) (entry_small r _ (omega (arith, s.count_is, s.few)));
         }
 
   module _ (ch : Chains) (ec : ch.count ≡ m.chains) (ew : ch.windows ≡ windows) (et : ch.totals ≡ totals_of (routes_in m) (windows_in m windows)) where
@@ -139,7 +139,7 @@ module _ (m : Model) (g : Guaranteed m) (windows : List ℕ) (long : length wind
     count_is = ec ∙ sym windows_count
 
     windows_are : map (λ i. get_or ch.windows i 0) (from 0 (length (windows_in m windows))) ≡ windows_in m windows
-    windows_are = rw (ew, windows_count) (take_is windows m.chains (omega (arith, g.chains-range.1)))
+    windows_are = rw (ew, windows_count) (take_is windows m.chains (omega (arith, g.chains_range.1)))
 
     -- the centres under the latest subtree, and all others
     parted_top : (top : Tree) (S : List Tree) (rest : List ℕ) → all_under (top ∷ S) ++ rest ≡ under (tree_of m) → Parted (routes_in m) (under top) (all_under S ++ rest)
@@ -155,7 +155,7 @@ module _ (m : Model) (g : Guaranteed m) (windows : List ℕ) (long : length wind
         record {
           top = leaf (suc c);
           start = forest_cells (routes_in m) (windows_in m windows) S;
-          ready = record { few = s.few; leaf_range = omega (arith, length_routes m g, g.centres-range.1); left_small = λ z. absurd (omega arith); right_small = λ z. absurd (omega arith) };
+          ready = record { few = s.few; leaf_range = omega (arith, length_routes m g, g.centres_range.1); left_small = λ z. absurd (omega arith); right_small = λ z. absurd (omega arith) };
           made =
               leaf-entry (routes_in m) (windows_in m windows) ch count_is et windows_are m.loads (λ k d h. loads_agree m g k d (omega (arith, windows_count))) (suc c) t.cells (omega arith) high (all_under S ++ rest) p
               ∙ ap (entry (routes_in m) (windows_in m windows) (leaf (suc c))) s.cells_are;
@@ -195,7 +195,7 @@ pub record Grown (m : Model) (windows : List ℕ) (t : Table) (i : ℕ) : Type 0
 
 module _ (m : Model) (g : Guaranteed m) (windows : List ℕ) (long : length windows ≡ 8) where
   given_count : length (nodes_given m) ≡ m.count
-  given_count = length-take-le m.count m.nodes (omega (arith, g.nodes-long, g.count-range))
+  given_count = length-take-le m.count m.nodes (omega (arith, g.nodes_long, g.count_range))
 
   grown_first : (totals : List ℕ) → totals ≡ row m.chains (λ k. count_by m.loads k (from 1 m.centres)) → Grown m windows (empty_table totals) 0
   unfolding empty_table stack subtrees nodes_of forest forest_cells forest_pairs
@@ -225,14 +225,14 @@ module _ (m : Model) (g : Guaranteed m) (windows : List ℕ) (long : length wind
   unfolding stack forest forest_cells forest_pairs nodes_of
   grown_last t i w h =
       let s = w.standing in
-      let e : stack (nodes_given m) i ≡ tree_of m ∷ [] = ap (subtrees []) (take_all i (nodes_given m) (omega (arith, given_count))) ∙ g.one-tree in
+      let e : stack (nodes_given m) i ≡ tree_of m ∷ [] = ap (subtrees []) (take_all i (nodes_given m) (omega (arith, given_count))) ∙ g.one_tree in
       record {
         nodes_long = s.long;
-        nodes_are = s.nodes-are ∙ ap (forest (routes_in m) (windows_in m windows)) e;
-        count_is = s.count-is ∙ ap nodes_of e ∙ omega (arith, tree_count m g, given_count);
-        totals_are = s.totals-are;
+        nodes_are = s.nodes_are ∙ ap (forest (routes_in m) (windows_in m windows)) e;
+        count_is = s.count_is ∙ ap nodes_of e ∙ omega (arith, tree_count m g, given_count);
+        totals_are = s.totals_are;
         cells_are = s.cells_are ∙ ap (forest_cells (routes_in m) (windows_in m windows)) e ∙ omega arith;
-        pairs_are = s.pairs-are ∙ ap (forest_pairs (routes_in m) (windows_in m windows)) e ∙ omega arith;
+        pairs_are = s.pairs_are ∙ ap (forest_pairs (routes_in m) (windows_in m windows)) e ∙ omega arith;
       }
 
 -- ---- one turn of it
@@ -254,8 +254,8 @@ growing_first m g windows small long totals e t et =
       model = g;
       few =
           record {
-            chains_few = g.chains-range.1;
-            totals_long = ap length e ∙ length-row (λ k. count_by m.loads k (from 1 m.centres)) m.chains g.chains-range.1;
+            chains_few = g.chains_range.1;
+            totals_long = ap length e ∙ length-row (λ k. count_by m.loads k (from 1 m.centres)) m.chains g.chains_range.1;
             windows_long = long;
             window_range = small;
           };
@@ -265,28 +265,28 @@ growing_first m g windows small long totals e t et =
     })
 
 pub growing_last : {m : Model} {ch : Chains} {t : Table} {i : ℕ} → Growing m ch t i → m.count ≤ i → Tabled m ch.windows t
-growing_last {m} {ch} {t} {i} w h = grown_last m w.model ch.windows w.few.windows-long t i w.grown h
+growing_last {m} {ch} {t} {i} w h = grown_last m w.model ch.windows w.few.windows_long t i w.grown h
 
 module _ {m : Model} {ch : Chains} {t : Table} {i : ℕ} (w : Growing m ch t i) (h : i < m.count) where
   count_same : t.count ≡ i
-  count_same = w.grown.standing.count-is ∙ stack_count (nodes_given m) (tree_of m) w.model.one-tree (tree_count m w.model) i (omega (arith, given_count m w.model ch.windows w.few.windows-long))
+  count_same = w.grown.standing.count_is ∙ stack_count (nodes_given m) (tree_of m) w.model.one_tree (tree_count m w.model) i (omega (arith, given_count m w.model ch.windows w.few.windows_long))
 
   pub count_low : t.count < 31
-  count_low = omega (arith, count_same, w.model.count-range)
+  count_low = omega (arith, count_same, w.model.count_range)
 
   turn : Follows m ch.windows t (get_or m.nodes i 0) (node_made ch m.loads t (get_or m.nodes i 0)) (stack (nodes_given m) i) (stack (nodes_given m) (suc i))
   turn =
       let g = w.model in
-      let long = w.few.windows-long in
+      let long = w.few.windows_long in
       let n : i < length (nodes_given m) = omega (arith, given_count m g ch.windows long) in
       subst (λ x. Follows m ch.windows t x (node_made ch m.loads t x) (stack (nodes_given m) i) (stack (nodes_given m) (suc i))) (get_or-take m.count m.nodes i 0 h)
-      (follows m g ch.windows long ch w.chains-are refl (w.totals-are ∙ w.grown.standing.totals-are) t (leaves_in (drop (suc i) (nodes_given m)))
-      (next (nodes_given m) (tree_of m) g.one-tree (tree_count m g) i n)
+      (follows m g ch.windows long ch w.chains_are refl (w.totals_are ∙ w.grown.standing.totals_are) t (leaves_in (drop (suc i) (nodes_given m)))
+      (next (nodes_given m) (tree_of m) g.one_tree (tree_count m g) i n)
       w.grown.standing
-      (parted_stack (nodes_given m) (tree_of m) g.one-tree (tree_count m g) (suc i)))
+      (parted_stack (nodes_given m) (tree_of m) g.one_tree (tree_count m g) (suc i)))
 
   pub node_low : get_or m.nodes i 0 ≤ 16
-  node_low = turn.ready.leaf-range
+  node_low = turn.ready.leaf_range
 
   -- the two entries that the code takes out are those a join's children have
   module _ (r l : ℕ) (er : r ≡ t.count - 1) (el : l ≡ r - (get_or t.nodes r no_node).span) where
@@ -299,7 +299,7 @@ module _ {m : Model} {ch : Chains} {t : Table} {i : ℕ} (w : Growing m ch t i) 
     found_left = ap (λ n. get_or t.nodes n no_node) (el ∙ (λ j. er j - (found_right j).span))
 
     pub children_small : get_or m.nodes i 0 ≡ 0 → Small (get_or t.nodes l no_node) × Small (get_or t.nodes r no_node)
-    children_small z = (subst Small (sym found_left) (turn.ready.left-small z), subst Small (sym found_right) (turn.ready.right-small z))
+    children_small z = (subst Small (sym found_left) (turn.ready.left_small z), subst Small (sym found_right) (turn.ready.right_small z))
 
     module _ (e : Node) (ee : e ≡ node_by ch m.loads (get_or t.nodes l no_node) (get_or t.nodes r no_node) t.cells (get_or m.nodes i 0)) where
       made : e ≡ node_made ch m.loads t (get_or m.nodes i 0)
@@ -313,10 +313,10 @@ module _ {m : Model} {ch : Chains} {t : Table} {i : ℕ} (w : Growing m ch t i) 
       pairs_low = subst (λ (n : Node). n.pairs ≤ 136 ^ 8) (sym made) (made_pairs ch w.few m.loads t (get_or m.nodes i 0))
 
       pub cells_fit : t.cells + e.cells < 2 ^ 64
-      cells_fit = omega (arith, cells_low, w.grown.cells_low, w.model.count-range)
+      cells_fit = omega (arith, cells_low, w.grown.cells_low, w.model.count_range)
 
       pub pairs_fit : t.pairs + e.pairs < 2 ^ 64
-      pairs_fit = omega (arith, pairs_low, w.grown.pairs-low, w.model.count-range)
+      pairs_fit = omega (arith, pairs_low, w.grown.pairs_low, w.model.count_range)
 
       pub turn_growing : Growing m ch (with_node t e) (i + 1)
       unfolding with_node
@@ -325,13 +325,13 @@ module _ {m : Model} {ch : Chains} {t : Table} {i : ℕ} (w : Growing m ch t i) 
           (record {
             model = w.model;
             few = w.few;
-            chains_are = w.chains-are;
-            totals_are = w.totals-are;
+            chains_are = w.chains_are;
+            totals_are = w.totals_are;
             grown =
                 record {
                   at_most = omega arith;
                   standing = standing_more t e w.grown.standing (subst (λ n. Follows m ch.windows t (get_or m.nodes i 0) n (stack (nodes_given m) i) (stack (nodes_given m) (suc i))) (sym made) turn) count_low;
                   cells_low = omega (arith, cells_low, w.grown.cells_low);
-                  pairs_low = omega (arith, pairs_low, w.grown.pairs-low);
+                  pairs_low = omega (arith, pairs_low, w.grown.pairs_low);
                 };
           })

@@ -25,7 +25,7 @@ set_low (x ∷ xs) (suc i) v bound h f (suc k) = set_low xs i v bound h (λ j. f
 module _ (m : Model) (g : Guaranteed m) (lower : ℕ) where
   pub lower_none : lower ≡ 0 → Lowered m lower (record { asked = Asked.Granted; windows = m.windows })
   unfolding asked_of lowering windows_of
-  lower_none e = record { answer = rw e; long = g.windows-long; small = g.window-range }
+  lower_none e = record { answer = rw e; long = g.windows_long; small = g.window_range }
 
 -- a chain to lower, counted from 0
 module _ (m : Model) (k : ℕ) where
@@ -52,17 +52,17 @@ module _ (m : Model) (k : ℕ) where
 module _ (m : Model) (g : Guaranteed m) (lower k : ℕ) (e : lower ≡ suc k) where
   pub lower_above : m.chains < lower → Lowered m lower (record { asked = Asked.Refused 10 0; windows = m.windows })
   unfolding asked_of
-  lower_above h = record { answer = rw e (above m k (omega arith)); long = g.windows-long; small = g.window-range }
+  lower_above h = record { answer = rw e (above m k (omega arith)); long = g.windows_long; small = g.window_range }
 
   pub lower_empty : lower ≤ m.chains → get_or m.windows k 0 ≡ 0 → Lowered m lower (record { asked = Asked.Refused 11 0; windows = m.windows })
   unfolding asked_of
-  lower_empty h z = record { answer = rw e (empty m k (omega arith) z); long = g.windows-long; small = g.window-range }
+  lower_empty h z = record { answer = rw e (empty m k (omega arith) z); long = g.windows_long; small = g.window_range }
 
   pub lower_less : lower ≤ m.chains → (get_or m.windows k 0 ≡ 0 → ⊥) → Lowered m lower (record { asked = Asked.Granted; windows = set m.windows k (get_or m.windows k 0 - 1) })
   unfolding asked_of
   lower_less h f =
       record {
         answer = rw e (less m k (omega arith) f);
-        long = length-set m.windows k (get_or m.windows k 0 - 1) ∙ g.windows-long;
-        small = set_low m.windows k (get_or m.windows k 0 - 1) 15 (omega (arith, g.window-range k)) g.window-range;
+        long = length-set m.windows k (get_or m.windows k 0 - 1) ∙ g.windows_long;
+        small = set_low m.windows k (get_or m.windows k 0 - 1) 15 (omega (arith, g.window_range k)) g.window_range;
       }

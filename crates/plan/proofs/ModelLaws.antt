@@ -42,4 +42,4 @@ module _ (m : Model) (g : Guaranteed m) where
       get_or-map_in (λ c. c.route) (centres_of m) c [] (queue []) (omega (arith, length_centres m g)) ∙ ap (λ x. x.route) (centre_at_lem (suc c) (queue []) low high)
 
   pub tree_count : nodes_in (tree_of m) ≡ length (take m.count m.nodes)
-  tree_count = omega (arith, nodes_under (tree_of m), perm_length g.leaves, length_from 1 m.centres, g.count-is, length-take-le m.count m.nodes (omega (arith, g.nodes-long, g.count-range)))
+  tree_count = omega (arith, nodes_under (tree_of m), perm_length g.leaves, length_from 1 m.centres, g.count_is, length-take-le m.count m.nodes (omega (arith, g.nodes_long, g.count_range)))

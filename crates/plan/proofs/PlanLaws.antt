@@ -60,4 +60,4 @@ module _ (file : List ℕ) (lower : ℕ) (r : Run) (w : RunFor (ask file lower) 
 
   pub plan_granted : r.asked ≡ Asked.Granted → PlanAnswer.Planned r.table.cells r.table.pairs ≡ plan file lower
   unfolding plan asked_of
-  plan_granted e = let b = (w.prepared e).tabled in rw (← w.answer, e) (λ i. PlanAnswer.Planned (b.cells_are i) (b.pairs-are i))
+  plan_granted e = let b = (w.prepared e).tabled in rw (← w.answer, e) (λ i. PlanAnswer.Planned (b.cells_are i) (b.pairs_are i))

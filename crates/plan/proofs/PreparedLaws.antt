@@ -32,25 +32,25 @@ module _ {m : Model} {windows : List ℕ} {t : Table} (p : Prepared m windows t)
   -- ---- the run
 
   pub length_windows : length (windows_in m windows) ≡ m.chains
-  length_windows = length-take-le m.chains windows (omega (arith, p.windows-long, p.guaranteed.chains-range))
+  length_windows = length-take-le m.chains windows (omega (arith, p.windows_long, p.guaranteed.chains_range))
 
   pub fits : Fit m (windows_in m windows)
-  fits = fit m p.guaranteed (windows_in m windows) length_windows (take_low m.chains windows 15 p.windows-low)
+  fits = fit m p.guaranteed (windows_in m windows) length_windows (take_low m.chains windows 15 p.windows_low)
 
   pub few : Few (chains_of m windows t)
   unfolding totals_of
   few = record {
-    chains_few = p.guaranteed.chains-range.1;
-    totals_long = ap length p.tabled.totals-are ∙ length-row _ (length (windows_in m windows)) (omega (arith, length_windows, p.guaranteed.chains-range));
-    windows_long = p.windows-long;
-    window_range = p.windows-low;
+    chains_few = p.guaranteed.chains_range.1;
+    totals_long = ap length p.tabled.totals_are ∙ length-row _ (length (windows_in m windows)) (omega (arith, length_windows, p.guaranteed.chains_range));
+    windows_long = p.windows_long;
+    window_range = p.windows_low;
   }
 
   pub some_cells : 1 ≤ t.cells
   some_cells = omega (arith, p.tabled.cells_are, cells_some (routes_in m) (windows_in m windows) (tree_of m))
 
   pub pairs_counted : length (pairs_listed m (windows_in m windows)) ≡ t.pairs
-  pairs_counted = listed_pairs m (windows_in m windows) fits ∙ sym p.tabled.pairs-are
+  pairs_counted = listed_pairs m (windows_in m windows) fits ∙ sym p.tabled.pairs_are
 
   pub parted_all : Parted (routes_in m) (under (tree_of m)) []
   parted_all = rw (append-nil (under (tree_of m)), length_routes m p.guaranteed) p.guaranteed.leaves
@@ -64,15 +64,15 @@ module _ {m : Model} {windows : List ℕ} {t : Table} (p : Prepared m windows t)
   -- ---- the table
 
   pub count_few : t.count ≤ 31
-  count_few = omega (arith, p.tabled.count-is, p.guaranteed.count-range)
+  count_few = omega (arith, p.tabled.count_is, p.guaranteed.count_range)
 
   pub nodes_are : take t.count t.nodes ≡ map (entry_of (routes_in m) (windows_in m windows)) (tree_nodes m windows)
-  nodes_are = p.tabled.nodes-are ∙ entries-postorder (routes_in m) (windows_in m windows) (tree_of m) 0
+  nodes_are = p.tabled.nodes_are ∙ entries-postorder (routes_in m) (windows_in m windows) (tree_of m) 0
 
   pub length_nodes : length (tree_nodes m windows) ≡ t.count
   length_nodes =
       sym (length-map (tree_nodes m windows) (entry_of (routes_in m) (windows_in m windows))) ∙ sym (ap length nodes_are)
-      ∙ length-take-le t.count t.nodes (omega (arith, p.tabled.nodes-long, count_few))
+      ∙ length-take-le t.count t.nodes (omega (arith, p.tabled.nodes_long, count_few))
 
   pub entry_at : (i : ℕ) → i < t.count → get_or t.nodes i no_node ≡ entry_of (routes_in m) (windows_in m windows) (get_or (tree_nodes m windows) i (none (routes_in m) (windows_in m windows)))
   entry_at i h =

@@ -76,7 +76,7 @@ module _ (m : Model) (g : Guaranteed m) where
   lowerings_turn {k = k} {n = n} w h e d q =
       let s = exact_says {n = numerator m (k + 1)} {v = n} (sym e ∙ d) in
       record {
-        filled = rowed_turn (at m) m.chains w.filled h g.chains-range.1 s.is;
+        filled = rowed_turn (at m) m.chains w.filled h g.chains_range.1 s.is;
         small = below_more (λ i. numerator m (i + 1) < 2 ^ 64) k w.small s.low;
         kept = kept_then w.kept q;
       }
@@ -86,7 +86,7 @@ module _ (m : Model) (g : Guaranteed m) where
   lowerings_stop {k} numbers h e d =
       let o : 1 + k ≡ k + 1 = omega arith in
       let l : 2 ^ 64 ≤ numerator m (k + 1) = large_says (sym e ∙ d) in
-      let i = subst (λ x. Memᴰ x (from 1 8)) o (from_in 1 8 k (omega (arith, g.chains-range))) in
+      let i = subst (λ x. Memᴰ x (from 1 8)) o (from_in 1 8 k (omega (arith, g.chains_range))) in
       record {
         large_is = sym (some_of too_large (Memᴰ.map (numerator m) i) (le-leb (2 ^ 64) (numerator m (k + 1)) l));
         numbers_are = λ f. absurd (true≢false f);
@@ -97,7 +97,7 @@ module _ (m : Model) (g : Guaranteed m) where
   lowerings_last {numbers = numbers} {k = k} w h =
       record {
         large_is = sym (not_some too_large (map (numerator m) (from 1 8)) (λ a i. each a (Memᴰ.of_map (numerator m) (from 1 8) i)));
-        numbers_are = λ f. rowed_last (at m) m.chains w.filled h ∙ row_whole (at m) m.chains g.chains-range.1 at_past;
+        numbers_are = λ f. rowed_last (at m) m.chains w.filled h ∙ row_whole (at m) m.chains g.chains_range.1 at_past;
       }
     where
       low : (i : ℕ) → numerator m (i + 1) < 2 ^ 64

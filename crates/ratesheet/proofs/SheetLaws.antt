@@ -40,7 +40,7 @@ module _ (m : Model) (n : AllNumerators) (w : Numbered m n) where
 
   pub answer_made : (full : Full) (b : ℕ) → full ≡ full_of m → n.large ≡ false → b ≡ busiest m → record { refusal = 0; place = 0; value = full.value; pairs = full.pairs; cells = full.cells; chains = m.chains; numerators = n.numbers; busiest = b } ≡ sheet_below m
   unfolding sheet_below full_sheet full_of
-  answer_made full b d e f = rw (sym w.large_is ∙ e, d, w.numbers-are e, f)
+  answer_made full b d e f = rw (sym w.large_is ∙ e, d, w.numbers_are e, f)
 
 pub full_is : (m : Model) {v p c : ℕ} → v ≡ full_value m → p ≡ pairs_in m (windows_of m) → c ≡ cells_in m (windows_of m) → record { value = v; pairs = p; cells = c } ≡ full_of m
 unfolding full_of
@@ -71,7 +71,7 @@ module _ (m : Model) (area : List ℕ) (t : Table) (w : Tabled m m.windows t) wh
 
   pub pairs_full : t.pairs ≡ pairs_in m (windows_of m)
   unfolding windows_of
-  pairs_full = w.pairs-are
+  pairs_full = w.pairs_are
 
   module _ {r : Bool} (e : r ≡ (ltb 8192 t.cells || ltb (length area) t.cells)) where
     told : r ≡ no_room (cells_in m (windows_of m)) area

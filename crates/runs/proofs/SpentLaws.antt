@@ -90,7 +90,7 @@ module _ (m : Model) (windows : List ℕ) (t : Table) (p : Prepared m windows t)
     module _ (f : full ≡ false) where
       pub advance_high : t.pairs < done → advance_in m ws done budget area ≡ no_advance 13 0 area
       unfolding advance_in
-      advance_high h = rw (room_is m windows t p area e ∙ f, ap (λ n. ltb n done) (sym p.tabled.pairs-are) ∙ lt-ltb t.pairs done h)
+      advance_high h = rw (room_is m windows t p area e ∙ f, ap (λ n. ltb n done) (sym p.tabled.pairs_are) ∙ lt-ltb t.pairs done h)
 
       pub value_room : {left : Quota} {after : List ℕ} → state left after ≡ walk (pairs_listed m ws) (state (quota_at done budget) area) → (1 ≤ t.cells) × (t.cells ≤ length after)
       value_room w = (some_cells p, omega (arith, p.tabled.cells_are, room m windows t p area e f, after_long w))
@@ -98,7 +98,7 @@ module _ (m : Model) (windows : List ℕ) (t : Table) (p : Prepared m windows t)
       module _ (h : done ≤ t.pairs) {left : Quota} {after : List ℕ} (w : state left after ≡ walk (pairs_listed m ws) (state (quota_at done budget) area)) where
         advance-told : advance_in m ws done budget area ≡ told m ws progress
         unfolding advance_in
-        advance-told = rw (room_is m windows t p area e ∙ f, ap (λ n. ltb n done) (sym p.tabled.pairs-are) ∙ le-ltb t.pairs done h)
+        advance-told = rw (room_is m windows t p area e ∙ f, ap (λ n. ltb n done) (sym p.tabled.pairs_are) ∙ le-ltb t.pairs done h)
 
         pub advance_stopped : left.over ≡ true → advance_in m ws done budget area ≡ record { answer = AdvanceAnswer.Stopped (done + (budget - left.budget)); area = after }
         unfolding told
@@ -108,7 +108,7 @@ module _ (m : Model) (windows : List ℕ) (t : Table) (p : Prepared m windows t)
             → advance_in m ws done budget area ≡ record { answer = AdvanceAnswer.Advanced (done + (budget - left.budget)) value; area = after }
         unfolding told value_at
         advance_advanced o value v =
-            let x : value_at m ws progress.done progress.area ≡ value = sym (v ∙ (λ i. choose (eqb (done_is w i) (p.tabled.pairs-are i)) (λ u. get_or (area_is w i) (p.tabled.cells_are i - 1) 0) (λ u. 0))) in
+            let x : value_at m ws progress.done progress.area ≡ value = sym (v ∙ (λ i. choose (eqb (done_is w i) (p.tabled.pairs_are i)) (λ u. get_or (area_is w i) (p.tabled.cells_are i - 1) 0) (λ u. 0))) in
             advance-told ∙ rw (sym (over_is w) ∙ o) (λ i. record { answer = AdvanceAnswer.Advanced (sym (done_is w) i) (x i); area = sym (area_is w) i })
 
 -- ---- the call

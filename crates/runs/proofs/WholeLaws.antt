@@ -91,7 +91,7 @@ module _ (m : Model) (windows : List ℕ) (t : Table) (p : Prepared m windows t)
 
         module _ (e : left.over ≡ false) where
           reach : pairs_in m ws ≤ t.pairs
-          reach = omega (arith, p.tabled.pairs-are)
+          reach = omega (arith, p.tabled.pairs_are)
 
           pub whole_exact : Fits.Exact (get_or after (t.cells - 1) 0) ≡ capped (value (centres_of m) ws)
           whole_exact =

@@ -55,7 +55,7 @@ parts_of left right own = record { left = record { from = left.base; to = left.b
 
 module _ {ch : Chains} {left right own : Node} {n : ℕ} (j : JoinIn ch left right own n) where
   few_windows : length j.windows ≤ 8
-  few_windows = omega (arith, j.count-is, j.few.chains-few)
+  few_windows = omega (arith, j.count_is, j.few.chains_few)
 
   -- the ends of all parts
   pub ends : (left.base + left.cells ≤ n) × (right.base + right.cells ≤ n) × (own.base + own.cells ≤ n)
@@ -77,10 +77,10 @@ module _ {ch : Chains} {left right own : Node} {n : ℕ} (j : JoinIn ch left rig
   own_long = strides_long j.routes j.windows own (join j.l j.r) j.start j.own_is few_windows
 
   windows_taken : take (ch.count - 0) ch.windows ≡ j.windows
-  windows_taken = ap (λ c. take c ch.windows) (sub-zero ch.count) ∙ j.windows-are
+  windows_taken = ap (λ c. take c ch.windows) (sub-zero ch.count) ∙ j.windows_are
 
   strided : (x : Node) (t : Tree) (start : ℕ) → x ≡ entry j.routes j.windows t start → take (ch.count - 0) x.strides ≡ strides (spans_at j.routes (take (ch.count - 0) ch.windows) t)
-  strided x t start e = ap (λ c. take c x.strides) (sub-zero ch.count ∙ j.count-is) ∙ strides_taken j.routes j.windows x t start e ∙ ap (λ w. strides (spans_at j.routes w t)) (sym windows_taken)
+  strided x t start e = ap (λ c. take c x.strides) (sub-zero ch.count ∙ j.count_is) ∙ strides_taken j.routes j.windows x t start e ∙ ap (λ w. strides (spans_at j.routes w t)) (sym windows_taken)
 
   pub join_of : JoinOf (take (ch.count - 0) ch.windows) (take (ch.count - 0) left.strides) (take (ch.count - 0) right.strides) (take (ch.count - 0) own.strides) (parts_of left right own) n
   join_of =
@@ -93,7 +93,7 @@ module _ {ch : Chains} {left right own : Node} {n : ℕ} (j : JoinIn ch left rig
         others = j.rest;
         parted = j.parted;
         chains = omega (arith, ap length windows_taken, few_windows);
-        messages = take_low (ch.count - 0) ch.windows 15 j.few.window-range;
+        messages = take_low (ch.count - 0) ch.windows 15 j.few.window_range;
         left_strides = strided left j.l j.start j.left_is;
         right_strides = strided right j.r (j.start + all_cells j.routes j.windows j.l) j.right_is;
         own_strides = strided own (join j.l j.r) j.start j.own_is;

@@ -90,12 +90,12 @@ spans_ends loads spans few same windows absent =
 
 module _ {loads lows highs : List ℕ} (ends : LeafEnds loads lows highs) where
   same_length : length highs ≡ length lows
-  same_length = ends.highs-length ∙ sym ends.lows-length
+  same_length = ends.highs_length ∙ sym ends.lows_length
 
   below_top : (ns : List ℕ) → Memᴰ ns (between lows highs) → weight loads ns ≤ weight loads highs
   below_top ns m =
       let r = between_under lows highs ns same_length m in
-      omega (arith, weight_whole loads ns, weight_whole loads highs, after_rises loads ns highs (r.0 ∙ ends.lows-length) ends.highs-length (le_refl 0) r.1 ends.absent)
+      omega (arith, weight_whole loads ns, weight_whole loads highs, after_rises loads ns highs (r.0 ∙ ends.lows_length) ends.highs_length (le_refl 0) r.1 ends.absent)
 
   pub some_is_top : some (λ n. leb (2 ^ 64) n) (map (weight loads) (between lows highs)) ≡ leb (2 ^ 64) (weight loads highs)
   some_is_top = by (leb (2 ^ 64) (weight loads highs)) refl

@@ -107,13 +107,13 @@ module _ (loads lows highs : List ℕ) (k acc before : ℕ) where
 module _ {loads lows highs : List ℕ} (ends : LeafEnds loads lows highs) (k : ℕ) (h : k ≡ length loads) where
   pub one_cell : length (between (drop k lows) (drop k highs)) ≡ 1
   unfolding between
-  one_cell = let b : length lows ≤ k = omega (arith, ends.lows-length) in rw (drop_of_length-le lows b)
+  one_cell = let b : length lows ≤ k = omega (arith, ends.lows_length) in rw (drop_of_length-le lows b)
 
   cells_end : (acc before : ℕ) → cells_from acc before (drop k loads) (drop k lows) (drop k highs) ≡ acc ∷ []
   unfolding cells_from between weight_after multinomial powers
   cells_end acc before =
       let a : length loads ≤ k = omega arith in
-      let b : length lows ≤ k = omega (arith, ends.lows-length) in
+      let b : length lows ≤ k = omega (arith, ends.lows_length) in
       rw (drop_of_length-le loads a, drop_of_length-le lows b) (ap (λ x. x ∷ []) (mul-one acc))
 
   pub one_filled : (acc before : ℕ) (out : List ℕ) (at : ℕ) → at < length out → (at + 1 ≡ at + length (between (drop k lows) (drop k highs))) × (take (at + 1) (set out at acc) ≡ take at out ++ cells_from acc before (drop k loads) (drop k lows) (drop k highs))
@@ -129,10 +129,10 @@ module _ {loads lows highs : List ℕ} (ends : LeafEnds loads lows highs) (k acc
   later n = weight_after (before + n) (drop (k + 1) loads) (drop (k + 1) highs)
 
   at_top : part acc before load (get_or highs k 0) * later (get_or highs k 0) < 2 ^ 64
-  at_top = omega (arith, ap (λ x. acc * x) (after_at loads highs k before h ends.highs-length), largest)
+  at_top = omega (arith, ap (λ x. acc * x) (after_at loads highs k before h ends.highs_length), largest)
 
   later-length : length (drop (k + 1) highs) ≡ length (drop (k + 1) loads)
-  later-length = omega (arith, length-drop (k + 1) highs, length-drop (k + 1) loads, ends.highs-length)
+  later-length = omega (arith, length-drop (k + 1) highs, length-drop (k + 1) loads, ends.highs_length)
 
   later_absent : (j : ℕ) → get_or (drop (k + 1) loads) j 0 ≡ 0 → get_or (drop (k + 1) highs) j 0 ≡ 0
   later_absent j e = get_or-drop (k + 1) highs j 0 ∙ ends.absent (k + 1 + j) (sym (get_or-drop (k + 1) loads j 0) ∙ e)

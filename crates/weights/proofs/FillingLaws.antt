@@ -29,7 +29,7 @@ module _ {loads lows highs : List ℕ} {k acc before at room : ℕ} (to : ToFill
 
   pub filling_start : (old : List ℕ) (power : ℕ) → k < length loads → power ≡ acc * get_or loads k 0 ^ get_or lows k 0 → Filling loads lows highs k acc before at old (get_or loads k 0) (get_or highs k 0) (get_or lows k 0) power at old
   filling_start old power h e =
-      record { inside = h; load_is = refl; high_is = refl; index = ends.ordered k; power_is = e; room = refl; left = left_all loads lows highs k acc before at old h ends.lows-length ends.highs-length }
+      record { inside = h; load_is = refl; high_is = refl; index = ends.ordered k; power_is = e; room = refl; left = left_all loads lows highs k acc before at old h ends.lows_length ends.highs_length }
 
   module _ {old : List ℕ} {load high i power next : ℕ} {out : List ℕ} (size : length old ≡ room) (f : Filling loads lows highs k acc before at old load high i power next out) where
     index_low : i ≤ get_or highs k 0
@@ -42,7 +42,7 @@ module _ {loads lows highs : List ℕ} {k acc before at room : ℕ} (to : ToFill
     sum_small = omega (arith, index_small, to.messages, f.inside, ends.few)
 
     part_is : (ways : ℕ) → ways ≡ binomial (before + i) i → power * ways ≡ part acc before (get_or loads k 0) i
-    part_is ways e = (λ t. f.power-is t * e t) ∙ ap (λ x. acc * x ^ i * binomial (before + i) i) f.load_is
+    part_is ways e = (λ t. f.power_is t * e t) ∙ ap (λ x. acc * x ^ i * binomial (before + i) i) f.load_is
 
     module _ (ways : ℕ) (e : ways ≡ binomial (before + i) i) where
       pub product_low : power * ways < 2 ^ 64
@@ -73,7 +73,7 @@ module _ {loads lows highs : List ℕ} {k acc before at room : ℕ} (to : ToFill
               load_is = f.load_is;
               high_is = f.high_is;
               index = omega arith;
-              power_is = rw (add-one i, pow-suc load i) (ap (λ x. x * load) f.power-is ∙ mul_assoc acc (load ^ i) load);
+              power_is = rw (add-one i, pow-suc load i) (ap (λ x. x * load) f.power_is ∙ mul_assoc acc (load ^ i) load);
               room = s ∙ f.room;
               left = left_now;
             }
@@ -95,5 +95,5 @@ module _ {loads lows highs : List ℕ} {k acc before at room : ℕ} (to : ToFill
     pub power_more_low : i < high → power * load < 2 ^ 64
     power_more_low h =
         let m : i + 1 ≤ get_or highs k 0 = omega (arith, f.high_is) in
-        let e : power * load ≡ acc * load ^ (i + 1) = rw (add-one i, pow-suc load i) (ap (λ x. x * load) f.power-is ∙ mul_assoc acc (load ^ i) load) in
+        let e : power * load ≡ acc * load ^ (i + 1) = rw (add-one i, pow-suc load i) (ap (λ x. x * load) f.power_is ∙ mul_assoc acc (load ^ i) load) in
         omega (arith, e, ap (λ x. acc * x ^ (i + 1)) f.load_is, power_low ends k acc before f.inside to.largest (i + 1) m)

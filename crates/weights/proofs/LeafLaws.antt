@@ -31,10 +31,10 @@ taken_count {n = n} {kept} t = sym (length-take-le n kept (omega (arith, t.room,
 
 module _ {loads lows highs : List ℕ} (ends : LeafEnds loads lows highs) {n : ℕ} {p a b : List ℕ} (kept : Kept loads lows highs n p a b) where
   kept_ends : LeafEnds (take n p) (take n a) (take n b)
-  kept_ends = rw (kept.loads-taken.list, kept.lows-taken.list, kept.highs-taken.list) (present_ends ends)
+  kept_ends = rw (kept.loads_taken.list, kept.lows_taken.list, kept.highs_taken.list) (present_ends ends)
 
   kept_cells : cells_from 1 0 (take n p) (take n a) (take n b) ≡ cells_from 1 0 loads lows highs
-  kept_cells = (λ t. cells_from 1 0 (kept.loads-taken.list t) (kept.lows-taken.list t) (kept.highs-taken.list t)) ∙ present_cells 1 0 loads lows highs ends.lows-length ends.highs-length ends.ordered
+  kept_cells = (λ t. cells_from 1 0 (kept.loads_taken.list t) (kept.lows_taken.list t) (kept.highs_taken.list t)) ∙ present_cells 1 0 loads lows highs ends.lows_length ends.highs_length ends.ordered
 
   kept_between : length (between (take n a) (take n b)) ≡ length (between lows highs)
   kept_between = sym (cells_length 1 0 (take n p) (take n a) (take n b)) ∙ ap length kept_cells ∙ cells_length 1 0 loads lows highs

@@ -70,8 +70,8 @@ present_holds P (load ∷ loads) (low ∷ lows) (suc high ∷ highs) a b p (suc 
 
 pub present_ends : {loads lows highs : List ℕ} → LeafEnds loads lows highs → LeafEnds (present highs loads) (present highs lows) (present highs highs)
 present_ends {loads} {lows} {highs} ends =
-    let a = ends.lows-length in
-    let b = ends.highs-length in
+    let a = ends.lows_length in
+    let b = ends.highs_length in
     let same : length (present highs loads) ≡ length (present highs highs) = present-length highs loads b in
     record {
       few = omega (arith, same, present_few highs, b, ends.few);

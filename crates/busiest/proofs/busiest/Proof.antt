@@ -22,7 +22,7 @@ better-requires : tie.Need-better-requires invariant-loop decreases-loop
 better-requires c κs = search rules
 
 add-c : tie.Need-overflow-add-c invariant-loop decreases-loop
-add-c c = record { fits = omega (arith, c.before.before.if1.true, c.before.before.before.before.before.requires.centres-range) }
+add-c c = record { fits = omega (arith, c.before.before.if1.true, c.before.before.before.before.before.requires.centres_range) }
 
 loop-less : tie.Need-loop-smaller invariant-loop decreases-loop
 loop-less c = search rules

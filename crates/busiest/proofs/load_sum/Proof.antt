@@ -22,16 +22,16 @@ loop-holds : tie.Need-loop-init invariant-loop decreases-loop
 loop-holds c = summed_first _ c.before.requires.0 _
 
 add-sum : tie.Need-overflow-add-sum invariant-loop decreases-loop
-add-sum c = record { fits = omega (arith, c.before.before.before.before.requires.0.chains-range, c.before.before.before.before.requires.0.centres-range) }
+add-sum c = record { fits = omega (arith, c.before.before.before.before.requires.0.chains_range, c.before.before.before.before.requires.0.centres_range) }
 
 mul-sum : tie.Need-overflow-mul-sum invariant-loop decreases-loop
 mul-sum c = search rules
 
 array-read-sum : tie.Need-array-read-sum invariant-loop decreases-loop
-array-read-sum c = omega (arith, c.before.before.before.before.requires.0.loads-long, c.before.before.before.before.requires.0.chains-range, c.before.before.before.before.requires.0.centres-range)
+array-read-sum c = omega (arith, c.before.before.before.before.requires.0.loads_long, c.before.before.before.before.requires.0.chains_range, c.before.before.before.before.requires.0.centres_range)
 
 add-sum-2 : tie.Need-overflow-add-sum-2 invariant-loop decreases-loop
-add-sum-2 c = record { fits = omega (arith, c.before.before.loop.invariant.low, c.before.before.before.before.requires.0.chains-range, c.before.before.before.before.requires.0.load-range ((c.before.before.before.before.args.centre - 1) * 8 + c.before.before.loop.k)) }
+add-sum-2 c = record { fits = omega (arith, c.before.before.loop.invariant.low, c.before.before.before.before.requires.0.chains_range, c.before.before.before.before.requires.0.load_range ((c.before.before.before.before.args.centre - 1) * 8 + c.before.before.loop.k)) }
 
 add-k : tie.Need-overflow-add-k invariant-loop decreases-loop
 add-k c = search rules

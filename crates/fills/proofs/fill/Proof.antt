@@ -18,7 +18,7 @@ loop-holds : tie.Need-loop-init invariant-loop decreases-loop
 loop-holds c = written_first _ _ _ _
 
 slice-aggregate-write-node : tie.Need-slice-aggregate-write-node invariant-loop decreases-loop
-slice-aggregate-write-node c = sym c.before.before.before.before.before.before.before.before.before.requires.0.1.guaranteed.loads-long
+slice-aggregate-write-node c = sym c.before.before.before.before.before.before.before.before.before.requires.0.1.guaranteed.loads_long
 
 mul-write-node : tie.Need-overflow-mul-write-node invariant-loop decreases-loop
 mul-write-node c = search rules
@@ -26,7 +26,7 @@ mul-write-node c = search rules
 array-copy-out-write-node : tie.Need-array-copy-out-write-node invariant-loop decreases-loop
 array-copy-out-write-node c =
     let s = c.before.before.before.before.before.before.before.before.before in
-    omega (arith, inside _ s.args.windows _ s.requires.0.1 c.before.if1.true, s.requires.0.1.tabled.nodes-long)
+    omega (arith, inside _ s.args.windows _ s.requires.0.1 c.before.if1.true, s.requires.0.1.tabled.nodes_long)
 
 write-node-requires : tie.Need-write-node-requires invariant-loop decreases-loop
 write-node-requires c κs =

@@ -18,7 +18,7 @@ loop-holds : tie.Need-loop-init invariant-loop decreases-loop
 loop-holds c = passed_first _ _ _
 
 slice-aggregate-node-too-large : tie.Need-slice-aggregate-node-too-large invariant-loop decreases-loop
-slice-aggregate-node-too-large c = sym c.before.before.before.before.before.before.before.before.requires.1.guaranteed.loads-long
+slice-aggregate-node-too-large c = sym c.before.before.before.before.before.before.before.before.requires.1.guaranteed.loads_long
 
 mul-node-too-large : tie.Need-overflow-mul-node-too-large invariant-loop decreases-loop
 mul-node-too-large c = search rules
@@ -26,7 +26,7 @@ mul-node-too-large c = search rules
 array-copy-out-node-too-large : tie.Need-array-copy-out-node-too-large invariant-loop decreases-loop
 array-copy-out-node-too-large c =
     let s = c.before.before.before.before.before.before.before.before in
-    omega (arith, inside _ s.args.windows _ s.requires.1 c.before.if1.true, s.requires.1.tabled.nodes-long)
+    omega (arith, inside _ s.args.windows _ s.requires.1 c.before.if1.true, s.requires.1.tabled.nodes_long)
 
 node-too-large-requires : tie.Need-node-too-large-requires invariant-loop decreases-loop
 node-too-large-requires c κs =

@@ -30,7 +30,7 @@ mul-numbers : tie.Need-overflow-mul-numbers invariant-loop decreases-loop
 mul-numbers c = search rules
 
 array-write-numbers : tie.Need-array-write-numbers invariant-loop decreases-loop
-array-write-numbers c = omega (arith, c.before.before.before.before.before.before.before.before.before.loop.invariant.filled.long, c.before.before.before.before.before.before.before.before.before.before.before.before.requires.1.0.chains-range, c.before.before.before.before.before.before.before.if1.true)
+array-write-numbers c = omega (arith, c.before.before.before.before.before.before.before.before.before.loop.invariant.filled.long, c.before.before.before.before.before.before.before.before.before.before.before.before.requires.1.0.chains_range, c.before.before.before.before.before.before.before.if1.true)
 
 add-k : tie.Need-overflow-add-k invariant-loop decreases-loop
 add-k c = search rules

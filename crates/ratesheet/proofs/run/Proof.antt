@@ -15,7 +15,7 @@ slice-aggregate-whole-value c = search rules
 
 whole-value-requires : tie.Need-whole-value-requires
 unfolding windows_of
-whole-value-requires c κs = (c.before.before.rows.ensures, ((c.before.before.before.before.before.requires.0.0, c.before.before.before.before.before.requires.0.0.windows-long, c.before.before.before.before.before.requires.0.0.window-range), c.before.before.before.before.before.requires.0.1))
+whole-value-requires c κs = (c.before.before.rows.ensures, ((c.before.before.before.before.before.requires.0.0, c.before.before.before.before.before.requires.0.0.windows_long, c.before.before.before.before.before.requires.0.0.window_range), c.before.before.before.before.before.requires.0.1))
 
 enum-known-value : tie.Need-enum-known-value
 enum-known-value c = search rules

@@ -67,7 +67,7 @@ mul-m : tie.Need-overflow-mul-m invariant-loop decreases-loop
 mul-m c = omega (arith, window_at _ c.before.window.given.1 c.before.before.before.read-record.ensures.1)
 
 element-write-m : tie.Need-element-write-m invariant-loop decreases-loop
-element-write-m c = omega (arith, window_at _ c.before.window.given.1 c.before.before.before.read-record.ensures.1, c.before.before.before.before.before.before.before.before.before.loop.invariant.sound.windows-long)
+element-write-m c = omega (arith, window_at _ c.before.window.given.1 c.before.before.before.read-record.ensures.1, c.before.before.before.before.before.before.before.before.before.loop.invariant.sound.windows_long)
 
 add-m : tie.Need-overflow-add-m invariant-loop decreases-loop
 add-m c = record { fits = omega (arith, window_at _ c.before.window.given.1 c.before.before.before.read-record.ensures.1) }
@@ -89,7 +89,7 @@ mul-m-2 : tie.Need-overflow-mul-m-2 invariant-loop decreases-loop
 mul-m-2 c = omega (arith, slot_low (load_at _ c.before.before.centre.given.1 c.before.before.before.before.read-record.ensures.1) c.slot_of.ensures)
 
 element-write-m-2 : tie.Need-element-write-m-2 invariant-loop decreases-loop
-element-write-m-2 c = omega (arith, slot_low (load_at _ c.before.before.centre.given.1 c.before.before.before.before.read-record.ensures.1) c.slot_of.ensures, c.before.before.before.before.before.before.before.before.before.before.loop.invariant.sound.loads-long)
+element-write-m-2 c = omega (arith, slot_low (load_at _ c.before.before.centre.given.1 c.before.before.before.before.read-record.ensures.1) c.slot_of.ensures, c.before.before.before.before.before.before.before.before.before.before.loop.invariant.sound.loads_long)
 
 add-m-2 : tie.Need-overflow-add-m-2 invariant-loop decreases-loop
 add-m-2 c = record { fits = omega (arith, slot_low (load_at _ c.before.before.centre.given.1 c.before.before.before.before.read-record.ensures.1) c.slot_of.ensures) }
@@ -111,7 +111,7 @@ mul-m-3 : tie.Need-overflow-mul-m-3 invariant-loop decreases-loop
 mul-m-3 c = omega (arith, (leaf_at _ c.before.before.centre2.given.1 c.before.before.before.before.read-record.ensures.1).1)
 
 element-write-m-3 : tie.Need-element-write-m-3 invariant-loop decreases-loop
-element-write-m-3 c = omega (arith, (leaf_at _ c.before.before.centre2.given.1 c.before.before.before.before.read-record.ensures.1).1, c.before.before.before.before.before.before.before.before.before.before.loop.invariant.sound.nodes-long)
+element-write-m-3 c = omega (arith, (leaf_at _ c.before.before.centre2.given.1 c.before.before.before.before.read-record.ensures.1).1, c.before.before.before.before.before.before.before.before.before.before.loop.invariant.sound.nodes_long)
 
 add-m-3 : tie.Need-overflow-add-m-3 invariant-loop decreases-loop
 add-m-3 c = record { fits = omega (arith, (leaf_at _ c.before.before.centre2.given.1 c.before.before.before.before.read-record.ensures.1).1) }
@@ -126,7 +126,7 @@ mul-m-4 : tie.Need-overflow-mul-m-4 invariant-loop decreases-loop
 mul-m-4 c = omega (arith, (leaf_at _ c.before.before.before.centre2.given.1 c.before.before.before.before.before.read-record.ensures.1).0.high)
 
 element-write-m-4 : tie.Need-element-write-m-4 invariant-loop decreases-loop
-element-write-m-4 c = omega (arith, (leaf_at _ c.before.before.before.centre2.given.1 c.before.before.before.before.before.read-record.ensures.1).0.low, (leaf_at _ c.before.before.before.centre2.given.1 c.before.before.before.before.before.read-record.ensures.1).0.high, c.before.before.before.before.before.before.before.before.before.before.before.loop.invariant.sound.placed-long)
+element-write-m-4 c = omega (arith, (leaf_at _ c.before.before.before.centre2.given.1 c.before.before.before.before.before.read-record.ensures.1).0.low, (leaf_at _ c.before.before.before.centre2.given.1 c.before.before.before.before.before.read-record.ensures.1).0.high, c.before.before.before.before.before.before.before.before.before.before.before.loop.invariant.sound.placed_long)
 
 loop-less-4 : tie.Need-loop-smaller-4 invariant-loop decreases-loop
 loop-less-4 c = omega (arith, c.before.before.before.before.before.before.before.before.before.before.loop-test.true)
@@ -142,7 +142,7 @@ mul-m-5 : tie.Need-overflow-mul-m-5 invariant-loop decreases-loop
 mul-m-5 c = omega (arith, (join_at _ c.enum_told.given.1 c.before.before.read-record.ensures.1).0)
 
 element-write-m-5 : tie.Need-element-write-m-5 invariant-loop decreases-loop
-element-write-m-5 c = omega (arith, (join_at _ c.enum_told.given.1 c.before.before.read-record.ensures.1).0, c.before.before.before.before.before.before.before.before.loop.invariant.sound.nodes-long)
+element-write-m-5 c = omega (arith, (join_at _ c.enum_told.given.1 c.before.before.read-record.ensures.1).0, c.before.before.before.before.before.before.before.before.loop.invariant.sound.nodes_long)
 
 add-m-5 : tie.Need-overflow-add-m-5 invariant-loop decreases-loop
 add-m-5 c = record { fits = omega (arith, (join_at _ c.enum_told.given.1 c.before.before.read-record.ensures.1).0) }

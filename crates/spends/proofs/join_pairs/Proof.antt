@@ -31,7 +31,7 @@ part-walk-join-start-2 : tie.Need-slice-bounds-walk-join-start-2
 part-walk-join-start-2 c = search rules
 
 part-walk-join-end-2 : tie.Need-slice-bounds-walk-join-end-2
-part-walk-join-end-2 c = omega (arith, left_long c.before.before.before.before.before.before.before.before.before.before.before.before.requires, c.before.before.before.before.before.before.before.before.before.before.before.before.requires.few.chains-few)
+part-walk-join-end-2 c = omega (arith, left_long c.before.before.before.before.before.before.before.before.before.before.before.before.requires, c.before.before.before.before.before.before.before.before.before.before.before.before.requires.few.chains_few)
 
 sub-walk-join-3 : tie.Need-overflow-sub-walk-join-3
 sub-walk-join-3 c = search rules
@@ -40,7 +40,7 @@ part-walk-join-start-3 : tie.Need-slice-bounds-walk-join-start-3
 part-walk-join-start-3 c = search rules
 
 part-walk-join-end-3 : tie.Need-slice-bounds-walk-join-end-3
-part-walk-join-end-3 c = omega (arith, right_long c.before.before.before.before.before.before.before.before.before.before.before.before.before.before.requires, c.before.before.before.before.before.before.before.before.before.before.before.before.before.before.requires.few.chains-few)
+part-walk-join-end-3 c = omega (arith, right_long c.before.before.before.before.before.before.before.before.before.before.before.before.before.before.requires, c.before.before.before.before.before.before.before.before.before.before.before.before.before.before.requires.few.chains_few)
 
 sub-walk-join-4 : tie.Need-overflow-sub-walk-join-4
 sub-walk-join-4 c = search rules
@@ -49,7 +49,7 @@ part-walk-join-start-4 : tie.Need-slice-bounds-walk-join-start-4
 part-walk-join-start-4 c = search rules
 
 part-walk-join-end-4 : tie.Need-slice-bounds-walk-join-end-4
-part-walk-join-end-4 c = omega (arith, own_long c.before.before.before.before.before.before.before.before.before.before.before.before.before.before.before.before.requires, c.before.before.before.before.before.before.before.before.before.before.before.before.before.before.before.before.requires.few.chains-few)
+part-walk-join-end-4 c = omega (arith, own_long c.before.before.before.before.before.before.before.before.before.before.before.before.before.before.before.before.requires, c.before.before.before.before.before.before.before.before.before.before.before.before.before.before.before.before.requires.few.chains_few)
 
 walk-join-requires : tie.Need-walk-join-requires
 walk-join-requires c κs = join_of c.before.before.before.before.before.before.before.before.before.before.before.before.before.before.before.before.before.requires

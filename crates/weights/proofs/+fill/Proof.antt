@@ -66,7 +66,7 @@ fill-mul-high t c = search rules
 fill-shared-slice-read-high : (t : ℕ) → fill-lts.Need-shared-slice-read-high (calls t) (fill-at t) fill.Post fill-Inv-loop fill-μ-loop
 fill-shared-slice-read-high t c =
     let to = c.before.before.before.before.before.before.before.before.requires.1.1 in
-    omega (arith, c.before.before.before.before.before.before.before.before.requires.1.0.1, to.ends.highs-length)
+    omega (arith, c.before.before.before.before.before.before.before.before.requires.1.0.1, to.ends.highs_length)
 
 fill-mul-i : (t : ℕ) → fill-lts.Need-overflow-mul-i (calls t) (fill-at t) fill.Post fill-Inv-loop fill-μ-loop
 fill-mul-i t c = search rules
@@ -74,7 +74,7 @@ fill-mul-i t c = search rules
 fill-shared-slice-read-i : (t : ℕ) → fill-lts.Need-shared-slice-read-i (calls t) (fill-at t) fill.Post fill-Inv-loop fill-μ-loop
 fill-shared-slice-read-i t c =
     let to = c.before.before.before.before.before.before.before.before.before.requires.1.1 in
-    omega (arith, c.before.before.before.before.before.before.before.before.before.requires.1.0.1, to.ends.lows-length)
+    omega (arith, c.before.before.before.before.before.before.before.before.before.requires.1.0.1, to.ends.lows_length)
 
 fill-exact-power-requires : (t : ℕ) → fill-lts.Need-exact-power-requires (calls t) (fill-at t) fill.Post fill-Inv-loop fill-μ-loop
 fill-exact-power-requires t c κs =

@@ -24,13 +24,13 @@ mul-high : tie.Need-overflow-mul-high invariant-loop decreases-loop
 mul-high c = search rules
 
 shared-slice-read-high : tie.Need-shared-slice-read-high invariant-loop decreases-loop
-shared-slice-read-high c = omega (arith, c.before.before.before.before.before.before.before.requires.1.ends.highs-length)
+shared-slice-read-high c = omega (arith, c.before.before.before.before.before.before.before.requires.1.ends.highs_length)
 
 mul-i : tie.Need-overflow-mul-i invariant-loop decreases-loop
 mul-i c = search rules
 
 shared-slice-read-i : tie.Need-shared-slice-read-i invariant-loop decreases-loop
-shared-slice-read-i c = omega (arith, c.before.before.before.before.before.before.before.before.requires.1.ends.lows-length)
+shared-slice-read-i c = omega (arith, c.before.before.before.before.before.before.before.before.requires.1.ends.lows_length)
 
 exact-power-requires : tie.Need-exact-power-requires invariant-loop decreases-loop
 exact-power-requires c κs = start_low c.before.before.before.before.before.before.before.before.requires.1 (omega arith)

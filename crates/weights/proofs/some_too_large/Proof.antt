@@ -11,7 +11,7 @@ use Rattle.weights.proofs.some_too_large.Tie as tie
 weight-of-requires : tie.Need-weight-of-requires
 weight-of-requires c κs =
     let ends = c.before.before.before.before.requires.1 in
-    (c.before.before.before.before.requires.0, ((ends.few, ends.windows), fits_of c.before.before.before.before.args.loads.now c.before.before.before.before.args.highs.now ends.highs-length ends.absent))
+    (c.before.before.before.before.requires.0, ((ends.few, ends.windows), fits_of c.before.before.before.before.args.loads.now c.before.before.before.before.args.highs.now ends.highs_length ends.absent))
 
 enum_told : tie.Need-enum-told
 enum_told c = search rules

@@ -59,7 +59,7 @@ presence-requires c κs = search rules
 add-n : tie.Need-overflow-add-n invariant-loop decreases-loop
 add-n c =
     let ends = c.before.before.before.before.before.before.before.before.before.requires in
-    omega (arith, presence_low _ _ c.presence.ensures, keeping_low c.before.before.before.before.before.loop.invariant.0 (omega (arith, ends.few, ends.highs-length)))
+    omega (arith, presence_low _ _ c.presence.ensures, keeping_low c.before.before.before.before.before.loop.invariant.0 (omega (arith, ends.few, ends.highs_length)))
 
 add-k : tie.Need-overflow-add-k invariant-loop decreases-loop
 add-k c = search rules
@@ -71,16 +71,16 @@ loop_again : tie.Need-loop-preserved invariant-loop decreases-loop
 loop_again c =
     let ends = c.before.before.before.before.before.before.before.before.before.requires in
     let v = c.before.before.before.before.before.loop.invariant in
-    let most : length c.before.before.before.before.before.before.before.before.before.args.highs.now ≤ 8 = omega (arith, ends.few, ends.highs-length) in
-    let h : c.before.before.before.before.before.loop.k < length c.before.before.before.before.before.before.before.before.before.args.highs.now = omega (arith, ends.highs-length) in
+    let most : length c.before.before.before.before.before.before.before.before.before.args.highs.now ≤ 8 = omega (arith, ends.few, ends.highs_length) in
+    let h : c.before.before.before.before.before.loop.k < length c.before.before.before.before.before.before.before.before.before.args.highs.now = omega (arith, ends.highs_length) in
     let e = c.presence.ensures in
-    (keeping_more v.0 most h (sym ends.highs-length) _ e, keeping_more v.1 most h (ends.lows-length ∙ sym ends.highs-length) _ e, keeping_more v.2 most h refl _ e)
+    (keeping_more v.0 most h (sym ends.highs_length) _ e, keeping_more v.1 most h (ends.lows_length ∙ sym ends.highs_length) _ e, keeping_more v.2 most h refl _ e)
 
 returns : tie.Need-returns invariant-loop decreases-loop
 returns c =
     let v = c.before.loop.invariant in
-    let most : length c.before.before.before.before.before.args.highs.now ≤ 8 = omega (arith, c.before.before.before.before.before.requires.few, c.before.before.before.before.before.requires.highs-length) in
-    let h : length c.before.before.before.before.before.args.highs.now ≤ c.before.loop.k = omega (arith, c.before.before.before.before.before.requires.highs-length) in
+    let most : length c.before.before.before.before.before.args.highs.now ≤ 8 = omega (arith, c.before.before.before.before.before.requires.few, c.before.before.before.before.before.requires.highs_length) in
+    let h : length c.before.before.before.before.before.args.highs.now ≤ c.before.loop.k = omega (arith, c.before.before.before.before.before.requires.highs_length) in
     record { loads_taken = keeping_done v.0 most h; lows_taken = keeping_done v.1 most h; highs_taken = keeping_done v.2 most h }
 
 pub those-present-spec : {M : Type 1} → statement M

@@ -27,25 +27,25 @@ array-share-prefix-kept-loads : tie.Need-array-share-prefix-kept-loads
 array-share-prefix-kept-loads c = search rules
 
 slice-aggregate-fill : tie.Need-slice-aggregate-fill
-slice-aggregate-fill c = taken_count c.before.before.before.before.before.those-present.ensures.loads-taken
+slice-aggregate-fill c = taken_count c.before.before.before.before.before.those-present.ensures.loads_taken
 
 array-share-prefix-kept-lows : tie.Need-array-share-prefix-kept-lows
 array-share-prefix-kept-lows c = search rules
 
 slice-aggregate-fill-2 : tie.Need-slice-aggregate-fill-2
-slice-aggregate-fill-2 c = taken_count c.before.before.before.before.before.before.those-present.ensures.lows-taken
+slice-aggregate-fill-2 c = taken_count c.before.before.before.before.before.before.those-present.ensures.lows_taken
 
 array-share-prefix-kept-highs : tie.Need-array-share-prefix-kept-highs
 array-share-prefix-kept-highs c = search rules
 
 slice-aggregate-fill-3 : tie.Need-slice-aggregate-fill-3
-slice-aggregate-fill-3 c = taken_count c.before.before.before.before.before.before.before.those-present.ensures.highs-taken
+slice-aggregate-fill-3 c = taken_count c.before.before.before.before.before.before.before.those-present.ensures.highs_taken
 
 fill-requires : tie.Need-fill-requires
 fill-requires c κs =
     let kept = c.before.before.before.before.before.before.before.before.those-present.ensures in
     let s = c.before.before.before.before.before.before.before.before.before.before.before.before.before.before in
-    ((s.requires.0, omega (arith, taken_count kept.loads-taken, c.before.before.before.before.before.before.before.if1.false)), kept_to_fill s.requires.1.0 kept _ s.requires.1.1.0 s.requires.1.1.1)
+    ((s.requires.0, omega (arith, taken_count kept.loads_taken, c.before.before.before.before.before.before.before.if1.false)), kept_to_fill s.requires.1.0 kept _ s.requires.1.1.0 s.requires.1.1.1)
 
 same-length-2 : tie.Need-same-length-2
 same-length-2 c = search rules

@@ -70,8 +70,8 @@ loop-less c = search rules
 
 loop_again : tie.Need-loop-preserved invariant-loop decreases-loop
 loop_again c = (
-  end_turn lowest c.before.before.before.before.before.before.before.before.args.ch c.before.before.before.before.before.before.before.before.args.t2 _ c.before.before.before.before.before.loop.invariant.0 c.before.before.before.if1.true c.before.before.before.before.before.before.before.before.requires.chains-few c.before.before.coverage.ensures c.before.low-end.ensures,
-  end_turn highest c.before.before.before.before.before.before.before.before.args.ch c.before.before.before.before.before.before.before.before.args.t2 _ c.before.before.before.before.before.loop.invariant.1 c.before.before.before.if1.true c.before.before.before.before.before.before.before.before.requires.chains-few c.before.before.coverage.ensures c.high-end.ensures,
+  end_turn lowest c.before.before.before.before.before.before.before.before.args.ch c.before.before.before.before.before.before.before.before.args.t2 _ c.before.before.before.before.before.loop.invariant.0 c.before.before.before.if1.true c.before.before.before.before.before.before.before.before.requires.chains_few c.before.before.coverage.ensures c.before.low-end.ensures,
+  end_turn highest c.before.before.before.before.before.before.before.before.args.ch c.before.before.before.before.before.before.before.before.args.t2 _ c.before.before.before.before.before.loop.invariant.1 c.before.before.before.if1.true c.before.before.before.before.before.before.before.before.requires.chains_few c.before.before.coverage.ensures c.high-end.ensures,
 )
 
 returns : tie.Need-returns invariant-loop decreases-loop

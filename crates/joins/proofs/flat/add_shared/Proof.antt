@@ -29,7 +29,7 @@ same-length-2 c = search rules
 returns : tie.Need-returns
 returns c =
     let u = c.before.before.before.before.before.before.before.before.before.before.args.u in
-    (shared_added u _ _ _ _ _ _ _ _ (omega (arith, c.before.before.before.before.before.before.before.before.before.before.requires.rows-room)) c.before.before.before.before.before.before.write-loop.ensures c.before.before.write-row.ensures, grown_more u _ _ _ (omega arith) (omega arith))
+    (shared_added u _ _ _ _ _ _ _ _ (omega (arith, c.before.before.before.before.before.before.before.before.before.before.requires.rows_room)) c.before.before.before.before.before.before.write-loop.ensures c.before.before.write-row.ensures, grown_more u _ _ _ (omega arith) (omega arith))
 
 pub add-shared-spec : {M : Type 1} → statement M
 add-shared-spec =

@@ -12,7 +12,7 @@ abbrev decreases-loop : tie.decreases-loop
 decreases-loop counts totals windows k₀ cells₀ strides₀ k cells strides = k
 
 loop-holds : tie.Need-loop-init invariant-loop decreases-loop
-loop-holds c = shaped_first _ _ _ _ c.before.before.requires.chains-few
+loop-holds c = shaped_first _ _ _ _ c.before.before.requires.chains_few
 
 sub-k : tie.Need-overflow-sub-k invariant-loop decreases-loop
 sub-k c = search rules
@@ -54,10 +54,10 @@ array-read-size : tie.Need-array-read-size invariant-loop decreases-loop
 array-read-size c = search rules
 
 size-requires : tie.Need-size-requires invariant-loop decreases-loop
-size-requires c κs = c.before.before.before.before.before.before.requires.window-range _
+size-requires c κs = c.before.before.before.before.before.before.requires.window_range _
 
 mul-cells : tie.Need-overflow-mul-cells invariant-loop decreases-loop
-mul-cells c = record { fits = omega (arith, shaped_few _ _ _ _ c.before.before.before.before.before.before.before.requires.chains-few c.before.before.before.before.before.before.before.requires.window-range (shaped_turn _ _ _ _ _ (omega arith) c.before.before.before.before.loop.invariant c.before.before.coverage.ensures c.before.stride.ensures c.size.ensures)) }
+mul-cells c = record { fits = omega (arith, shaped_few _ _ _ _ c.before.before.before.before.before.before.before.requires.chains_few c.before.before.before.before.before.before.before.requires.window_range (shaped_turn _ _ _ _ _ (omega arith) c.before.before.before.before.loop.invariant c.before.before.coverage.ensures c.before.stride.ensures c.size.ensures)) }
 
 loop-less : tie.Need-loop-smaller invariant-loop decreases-loop
 loop-less c = search rules

@@ -69,10 +69,10 @@ array-read-factor : tie.Need-array-read-factor invariant-loop decreases-loop
 array-read-factor c = search rules
 
 factor-requires : tie.Need-factor-requires invariant-loop decreases-loop
-factor-requires c κs = c.before.before.before.before.before.before.before.requires.window-range _
+factor-requires c κs = c.before.before.before.before.before.before.before.requires.window_range _
 
 mul-product : tie.Need-overflow-mul-product invariant-loop decreases-loop
-mul-product c = record { fits = omega (arith, product_few _ _ _ _ _ _ c.before.before.before.before.before.before.before.before.requires.chains-few c.before.before.before.before.before.before.before.before.requires.window-range (product_turn _ _ _ _ _ _ _ _ _ (omega arith) c.before.before.before.before.before.loop.invariant c.before.before.before.coverage.ensures c.before.before.coverage2.ensures c.before.coverage3.ensures c.factor.ensures)) }
+mul-product c = record { fits = omega (arith, product_few _ _ _ _ _ _ c.before.before.before.before.before.before.before.before.requires.chains_few c.before.before.before.before.before.before.before.before.requires.window_range (product_turn _ _ _ _ _ _ _ _ _ (omega arith) c.before.before.before.before.before.loop.invariant c.before.before.before.coverage.ensures c.before.before.coverage2.ensures c.before.coverage3.ensures c.factor.ensures)) }
 
 loop-less : tie.Need-loop-smaller invariant-loop decreases-loop
 loop-less c = search rules

@@ -15,7 +15,7 @@ abbrev decreases-loop : tie.decreases-loop
 decreases-loop m loads nodes ch t₀ i₀ t i = m.count - i
 
 totals-of-requires : tie.Need-totals-of-requires invariant-loop decreases-loop
-totals-of-requires c κs = (c.before.before.before.requires.0.centres-range.1, c.before.before.before.requires.0.chains-range.1)
+totals-of-requires c κs = (c.before.before.before.requires.0.centres_range.1, c.before.before.before.requires.0.chains_range.1)
 
 empty-table-requires : tie.Need-empty-table-requires invariant-loop decreases-loop
 empty-table-requires c κs = search rules
@@ -45,7 +45,7 @@ mul-made : tie.Need-overflow-mul-made invariant-loop decreases-loop
 mul-made c = search rules
 
 array-read-made : tie.Need-array-read-made invariant-loop decreases-loop
-array-read-made c = omega (arith, c.before.before.before.before.before.before.before.before.before.before.before.before.before.requires.0.nodes-long, c.before.before.before.before.before.before.before.before.before.before.before.before.before.requires.0.count-range, c.before.before.before.before.before.if1.true)
+array-read-made c = omega (arith, c.before.before.before.before.before.before.before.before.before.before.before.before.before.requires.0.nodes_long, c.before.before.before.before.before.before.before.before.before.before.before.before.before.requires.0.count_range, c.before.before.before.before.before.if1.true)
 
 made-requires : tie.Need-made-requires invariant-loop decreases-loop
 made-requires c κs = (c.before.before.before.before.before.before.before.loop.invariant.few, node_low c.before.before.before.before.before.before.before.loop.invariant c.before.before.before.before.before.if1.true, children_small c.before.before.before.before.before.before.before.loop.invariant c.before.before.before.before.before.if1.true _ _ c.before.before.before.before.back.ensures c.before.before.back2.ensures)
@@ -66,7 +66,7 @@ add-t-3 : tie.Need-overflow-add-t-3 invariant-loop decreases-loop
 add-t-3 c = record { fits = pairs_fit c.before.before.before.before.before.before.before.before.before.before.loop.invariant c.before.before.before.before.before.before.before.before.if1.true _ _ c.before.before.before.before.before.before.before.back.ensures c.before.before.before.before.before.back2.ensures _ c.before.before.made.ensures }
 
 add-i : tie.Need-overflow-add-i invariant-loop decreases-loop
-add-i c = record { fits = omega (arith, c.before.before.before.before.before.before.before.before.if1.true, c.before.before.before.before.before.before.before.before.before.before.before.before.before.before.before.before.requires.0.count-range) }
+add-i c = record { fits = omega (arith, c.before.before.before.before.before.before.before.before.if1.true, c.before.before.before.before.before.before.before.before.before.before.before.before.before.before.before.before.requires.0.count_range) }
 
 loop-less : tie.Need-loop-smaller invariant-loop decreases-loop
 loop-less c = search rules

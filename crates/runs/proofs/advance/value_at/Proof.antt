@@ -9,7 +9,7 @@ last-cell-requires : tie.Need-last-cell-requires
 last-cell-requires c κs = search rules
 
 returns : tie.Need-returns
-returns c = c.last-cell.ensures ∙ value_all _ _ _ c.before.if1.true
+returns c = c.last_cell.ensures ∙ value_all _ _ _ c.before.if1.true
 
 returns-2 : tie.Need-returns-2
 returns-2 c = value_some _ _ _ c.if1.false

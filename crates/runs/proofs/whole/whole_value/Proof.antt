@@ -34,7 +34,7 @@ same-length-2 : tie.Need-same-length-2
 same-length-2 c = search rules
 
 returns-3 : tie.Need-returns-3
-returns-3 c = (ap Fits.Exact c.last-cell.ensures ∙ whole_exact _ _ _ (prepared _ _ _ c.before.before.before.before.before.before.before.before.before.before.before.before.before.before.before.before.requires.1.0 c.before.before.before.before.before.before.before.before.before.before.before.before.before.make-table.ensures) _ c.before.before.before.before.before.before.before.before.before.before.before.before.before.before.before.before.requires.1.1 c.before.before.before.before.before.before.before.before.before.before.before.before.some-leaf-too-large.ensures c.before.before.before.before.before.before.before.before.before.before.before.if1.false c.before.before.before.before.before.before.before.before.before.fill.ensures c.before.before.before.before.before.spend.ensures c.before.before.if2.false, whole_kept _ _ _ (prepared _ _ _ c.before.before.before.before.before.before.before.before.before.before.before.before.before.before.before.before.requires.1.0 c.before.before.before.before.before.before.before.before.before.before.before.before.before.make-table.ensures) _ c.before.before.before.before.before.before.before.before.before.before.before.before.before.before.before.before.requires.1.1 c.before.before.before.before.before.before.before.before.before.before.before.before.some-leaf-too-large.ensures c.before.before.before.before.before.before.before.before.before.before.before.if1.false c.before.before.before.before.before.before.before.before.before.fill.ensures c.before.before.before.before.before.spend.ensures)
+returns-3 c = (ap Fits.Exact c.last_cell.ensures ∙ whole_exact _ _ _ (prepared _ _ _ c.before.before.before.before.before.before.before.before.before.before.before.before.before.before.before.before.requires.1.0 c.before.before.before.before.before.before.before.before.before.before.before.before.before.make-table.ensures) _ c.before.before.before.before.before.before.before.before.before.before.before.before.before.before.before.before.requires.1.1 c.before.before.before.before.before.before.before.before.before.before.before.before.some-leaf-too-large.ensures c.before.before.before.before.before.before.before.before.before.before.before.if1.false c.before.before.before.before.before.before.before.before.before.fill.ensures c.before.before.before.before.before.spend.ensures c.before.before.if2.false, whole_kept _ _ _ (prepared _ _ _ c.before.before.before.before.before.before.before.before.before.before.before.before.before.before.before.before.requires.1.0 c.before.before.before.before.before.before.before.before.before.before.before.before.before.make-table.ensures) _ c.before.before.before.before.before.before.before.before.before.before.before.before.before.before.before.before.requires.1.1 c.before.before.before.before.before.before.before.before.before.before.before.before.some-leaf-too-large.ensures c.before.before.before.before.before.before.before.before.before.before.before.if1.false c.before.before.before.before.before.before.before.before.before.fill.ensures c.before.before.before.before.before.spend.ensures)
 
 pub whole-value-spec : {M : Type 1} → statement M
 whole-value-spec =
