@@ -179,7 +179,7 @@ module _ (file : List ℕ) (lower : ℕ) (m : Model) (windows : List ℕ) (asked
         by false false x y = absurd (omega (arith, value_low m windows f area held (b + sum bs) reach x y))
 
     at_least_one_in : 1 ≤ value (centres_of m) windows
-    at_least_one_in = rw (value-G (centres_of m) (λ c k. (f.wide c k).1) windows) (bound-laws.value-some (centres_of m) (length windows) f.wide f.on f.visited windows refl)
+    at_least_one_in = rw (value-G (centres_of m) (λ c k. (f.wide c k).1) windows) (bound-laws.value_some (centres_of m) (length windows) f.wide f.on f.visited windows refl)
 
 pub demand_2 : (file : List ℕ) (lower cells pairs : ℕ) (area : List ℕ) → plan file lower ≡ PlanAnswer.Planned cells pairs → cells ≤ 8192 → cells ≤ length area
     → (b : ℕ) (bs : List ℕ) → pairs ≤ b + sum bs → Demand2 file lower cells pairs area b bs
