@@ -1,8 +1,10 @@
 // Sums and products of 64-bit numbers, exact or too large. No division: two factors below 2^32 multiply as they are, others by halves.
+#![tactic(auto)]
+
 ghost use Rattle.std.specs.Prelude.{◌≡◌, ◌+◌, ◌*◌, ◌<◌, ◌^◌};
 ghost use Rattle.arith.specs.Capped.{capped};
 
-#[derive(Drop)]
+#[derive(Clone, Copy)]
 pub enum Fits {
     Exact(u64),
     TooLarge,

@@ -1,4 +1,6 @@
 // The binomials of document 01. No other crate knows how they lie in the table.
+#![tactic(auto)]
+
 mod table;
 
 ghost use Rattle.std.specs.Prelude.{◌≡◌, ◌≤◌};

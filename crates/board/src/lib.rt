@@ -1,4 +1,6 @@
 // The calls for C and Rust: each answer as a struct of numbers, in the order of include/fenmantle.h.
+#![tactic(auto)]
+
 ghost use Rattle.calls.specs.Promises.{BoardPlanAllows, BoardStartAllows, BoardAdvanceAllows, SheetAllows, BoardPartAllows};
 
 use calls::{

@@ -1,4 +1,6 @@
 // The busiest centre: the lowest-numbered one among those with the largest sum of loads.
+#![tactic(auto)]
+
 ghost use Rattle.std.specs.Prelude.{◌≡◌, ◌+◌, ◌≤◌, ◌<◌};
 ghost use Rattle.modelfile.proofs.Guaranteed.{Guaranteed};
 ghost use Rattle.calls.specs.Sheet.{load_sum, busiest};
@@ -7,7 +9,7 @@ ghost use Rattle.busiest.specs.Steps.{better};
 use modelfile::Model;
 
 // The busiest centre so far, and its sum of loads.
-#[derive(Drop)]
+#[derive(Clone, Copy)]
 pub struct Best {
     pub centre: usize,
     pub most: u64,

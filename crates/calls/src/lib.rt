@@ -1,19 +1,20 @@
 // What the calls answer. The definitions over these types are in specs/; specs/Answers.antt gives document 01's number, place and
 // values for each case, as boards have them. The code of the calls stands in crates of its own.
+#![tactic(auto)]
 
-#[derive(Drop)]
+#[derive(Clone, Copy)]
 pub enum PlanAnswer {
     Planned { cells: u64, pairs: u64 },
     Refused { number: u64, place: u64 },
 }
 
-#[derive(Drop)]
+#[derive(Clone, Copy)]
 pub enum StartAnswer {
     Started,
     Refused { number: u64, place: u64 },
 }
 
-#[derive(Drop)]
+#[derive(Clone, Copy)]
 pub enum AdvanceAnswer {
     // the new number done, and the value once that is the total, else 0
     Advanced { done: u64, value: u64 },
@@ -25,7 +26,7 @@ pub enum AdvanceAnswer {
 // An enum with values has no layout in C, so boards get its numbers: `refusal` is 0 where nothing is refused.
 
 #[repr(C)]
-#[derive(Drop)]
+#[derive(Clone, Copy)]
 pub struct PlanNumbers {
     pub refusal: u64,
     pub place: u64,
@@ -34,14 +35,14 @@ pub struct PlanNumbers {
 }
 
 #[repr(C)]
-#[derive(Drop)]
+#[derive(Clone, Copy)]
 pub struct StartNumbers {
     pub refusal: u64,
     pub place: u64,
 }
 
 #[repr(C)]
-#[derive(Drop)]
+#[derive(Clone, Copy)]
 pub struct AdvanceNumbers {
     pub refusal: u64,
     pub place: u64,
@@ -51,7 +52,7 @@ pub struct AdvanceNumbers {
 
 // An enum may not hold an array, so the sheet answers its numbers everywhere.
 #[repr(C)]
-#[derive(Drop)]
+#[derive(Clone, Copy)]
 pub struct SheetAnswer {
     pub refusal: u64,
     pub place: u64,
@@ -65,7 +66,7 @@ pub struct SheetAnswer {
 
 // Where the tree part stands in the file.
 #[repr(C)]
-#[derive(Drop)]
+#[derive(Clone, Copy)]
 pub struct PartNumbers {
     pub from: u64,
     pub length: u64,

@@ -1,5 +1,7 @@
 // The sum over the pairs of one result cell, over any number of shared chains. Nothing is written: the area is lent for reading, each
 // child's cells as a part of it, one child at a time.
+#![tactic(auto)]
+
 ghost use Rattle.std.specs.Prelude.{◌≡◌, [], ◌+◌, ◌≤◌, ◌<◌, length, get_or};
 ghost use Rattle.sums.specs.Sums.{sum_over};
 ghost use Rattle.arith.specs.Capped.{capped};
@@ -8,14 +10,14 @@ ghost use Rattle.cellsums.specs.Places.{places, row_then, row_at, product, Withi
 use arith::Fits;
 
 // A node's cells in the area.
-#[derive(Drop)]
+#[derive(Clone, Copy)]
 pub struct Part {
     pub from: usize,
     pub to: usize,
 }
 
 // A shared chain at a result index i: i + 1 pairs, and how far apart they lie in the left child and in the right one.
-#[derive(Drop)]
+#[derive(Clone, Copy)]
 pub struct Row {
     pub count: usize,
     pub left: usize,

@@ -1,4 +1,6 @@
 // The second opinion of the crate `states` held against plans, runs and sheets: the lines of the scope document first, then models drawn by chance.
+#![tactic(auto)]
+
 mod areas; // areas.rt: B's area, pair by pair
 mod told; // told.rt: what the calls tell
 

@@ -8,7 +8,7 @@ use states::memory::LENGTH;
 const FOREIGN: u64 = 7777;
 
 // The number done, the value, and the refusal, 0 where there is none.
-#[derive(Drop)]
+#[derive(Clone, Copy)]
 pub struct Told {
     pub done: u64,
     pub value: u64,

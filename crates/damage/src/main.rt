@@ -1,5 +1,7 @@
 // Damaged files through the reader and the plan: the lines of the scope document, every front part of B, every byte of B set to other
 // values, and bytes put in between. What is expected was written by another reading of the scope document (tools/reference.py).
+#![tactic(auto)]
+
 use calls::PlanAnswer;
 use libc::STDOUT_FILENO;
 

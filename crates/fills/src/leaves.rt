@@ -11,7 +11,7 @@ ghost use Rattle.fills.specs.Nodes.{ends_by, leaf_cells, put, LeafIn};
 use plan::{Chains, Cover, Node};
 
 // The lowest and the highest index of each chain at a node.
-#[derive(Drop)]
+#[derive(Clone, Copy)]
 pub struct Ends {
     pub lows: [usize; 8],
     pub highs: [usize; 8],

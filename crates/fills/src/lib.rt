@@ -1,5 +1,7 @@
 // What a start writes, node by node in postorder: each leaf's weights, and 0 in every cell of a join. Whether a leaf has a weight that is
 // too large is a question of its own, asked before any cell is written.
+#![tactic(auto)]
+
 mod leaves; // leaves.rt: the cells of one leaf
 
 ghost use Rattle.std.specs.Prelude.{◌≡◌, false, ◌++◌, ◌+◌, ◌≤◌, length, drop, replicate};

@@ -1,4 +1,6 @@
 // The pairs of one join, with a skip and a budget, over any number of chains.
+#![tactic(auto)]
+
 mod flat;
 mod walks;
 
@@ -10,7 +12,7 @@ ghost use Rattle.joins.specs.Join.{JoinOf};
 use cellsums::Part;
 
 // The cells of the two children and the join's own.
-#[derive(Drop)]
+#[derive(Clone, Copy)]
 pub struct Join {
     pub left: Part,
     pub right: Part,
@@ -18,7 +20,7 @@ pub struct Join {
 }
 
 // A chain that is partial at the result: its window and one, the place of its row's count, and its strides.
-#[derive(Drop)]
+#[derive(Clone, Copy)]
 pub struct Loop {
     pub count: usize,
     pub row: usize,
@@ -28,7 +30,7 @@ pub struct Loop {
 }
 
 // Where a turn of a loop begins: the places in the children's cells and the join's own, and how many pairs its first cell has.
-#[derive(Drop)]
+#[derive(Clone, Copy)]
 pub struct Turn {
     pub left: usize,
     pub right: usize,
@@ -37,7 +39,7 @@ pub struct Turn {
 }
 
 // How many pairs are still to be skipped and to be added, and whether a pair ended the walk.
-#[derive(Drop)]
+#[derive(Clone, Copy)]
 pub struct Quota {
     pub skip: usize,
     pub budget: usize,
@@ -45,7 +47,7 @@ pub struct Quota {
 }
 
 // How much of the arrays of loops and rows is used, and how many pairs the first result cell has.
-#[derive(Drop)]
+#[derive(Clone, Copy)]
 pub struct Used {
     pub loops: usize,
     pub rows: usize,

@@ -7,7 +7,7 @@ use states::memory::{CHAINS, DUES, FIRST, LENGTH, MOST, at};
 use states::values::busiest;
 
 // A plan, and what a run by it tells in the end; refusals are 0 where nothing is refused. `kept` is whether the cell past the model's was left.
-#[derive(Drop)]
+#[derive(Clone, Copy)]
 pub struct Run {
     pub pairs: u64,
     pub cells: u64,

@@ -1,4 +1,6 @@
 // What is held against the second opinion: which models, and whether what the calls tell of them is what is due. The program `compare` makes the calls.
+#![tactic(auto)]
+
 pub mod answers; // answers.rt: runs and sheets, and whether they are as due
 pub mod cells; // cells.rt: the cells of an area
 pub mod lines; // lines.rt: the lines of the scope document

@@ -1,8 +1,9 @@
 // The model as read from a file, and what reading answers. The definitions over these types are in specs/; the code that reads
 // stands in a crate of its own.
+#![tactic(auto)]
 
 // What the records up to some place have given.
-#[derive(Drop)]
+#[derive(Clone, Copy)]
 pub struct Model {
     // the size record: how many centres and chains
     pub centres: usize,
@@ -24,27 +25,27 @@ pub struct Model {
 }
 
 // What one record says of the rest of the file.
-#[derive(Drop)]
+#[derive(Clone, Copy)]
 pub enum Step {
     More,
     Last,
     Refused { number: usize, place: usize },
 }
 
-#[derive(Drop)]
+#[derive(Clone, Copy)]
 pub struct Stepped {
     pub step: Step,
     pub model: Model,
 }
 
 // What the whole file is; where it is refused, the model holds what came before.
-#[derive(Drop)]
+#[derive(Clone, Copy)]
 pub enum Verdict {
     Accepted,
     Refused { number: usize, place: usize },
 }
 
-#[derive(Drop)]
+#[derive(Clone, Copy)]
 pub struct Reading {
     pub verdict: Verdict,
     pub model: Model,

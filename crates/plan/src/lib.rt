@@ -1,4 +1,6 @@
 // The node table of a model under the windows of a run, and the plan call.
+#![tactic(auto)]
+
 mod arrays; // arrays.rt: a node's cells and strides
 pub mod asking; // asking.rt: from a file and a chain to lower to a model, its windows and its table
 pub mod coverage; // coverage.rt: a chain's coverage by counting, and what it makes of cells and pairs
@@ -13,7 +15,7 @@ use calls::PlanAnswer;
 use modelfile::Model;
 
 // A chain's coverage at a node.
-#[derive(Drop)]
+#[derive(Clone, Copy)]
 pub enum Cover {
     Finished,
     Partial,
@@ -21,7 +23,7 @@ pub enum Cover {
 }
 
 // The chains of a run: how many, how many centres each has in all, and their windows. Entries past the number of chains are unused.
-#[derive(Drop)]
+#[derive(Clone, Copy)]
 pub struct Chains {
     pub count: usize,
     pub totals: [usize; 8],
@@ -29,13 +31,13 @@ pub struct Chains {
 }
 
 // What the coverage at a node makes of its array: how many cells, and each chain's stride.
-#[derive(Drop)]
+#[derive(Clone, Copy)]
 pub struct Shape {
     pub cells: usize,
     pub strides: [usize; 8],
 }
 
-#[derive(Drop)]
+#[derive(Clone, Copy)]
 pub struct Node {
     // a leaf's centre, 0 for a join
     pub centre: usize,
@@ -51,7 +53,7 @@ pub struct Node {
     pub pairs: u64,
 }
 
-#[derive(Drop)]
+#[derive(Clone, Copy)]
 pub struct Table {
     pub nodes: [Node; 31],
     pub count: usize,
@@ -62,20 +64,20 @@ pub struct Table {
 }
 
 // Whether a run is granted; if it is, its windows stand beside.
-#[derive(Drop)]
+#[derive(Clone, Copy)]
 pub enum Asked {
     Refused { number: u64, place: u64 },
     Granted,
 }
 
-#[derive(Drop)]
+#[derive(Clone, Copy)]
 pub struct Lowering {
     pub asked: Asked,
     pub windows: [usize; 8],
 }
 
 // What a file and a chain to lower ask for: where it is granted, the model, the windows of the run and their table stand beside.
-#[derive(Drop)]
+#[derive(Clone, Copy)]
 pub struct Run {
     pub asked: Asked,
     pub model: Model,

@@ -1,4 +1,6 @@
 // A chain's numerator: the value with its window one less, 0 where the window is 0.
+#![tactic(auto)]
+
 ghost use Rattle.std.specs.Prelude.{◌≡◌, ◌≤◌, length};
 ghost use Rattle.modelfile.specs.Network.{windows_of};
 ghost use Rattle.modelfile.proofs.Guaranteed.{Guaranteed};
@@ -15,7 +17,7 @@ use plan::windows::lowered;
 use runs::whole::whole_value;
 
 // A numerator for each chain, if none is too large.
-#[derive(Drop)]
+#[derive(Clone, Copy)]
 pub struct AllNumerators {
     pub numbers: [u64; 8],
     pub large: bool,

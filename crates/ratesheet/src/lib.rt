@@ -1,4 +1,6 @@
 // The sheet call: the full model's value, then each chain lowered in turn, over one area that is 0 afterwards.
+#![tactic(auto)]
+
 mod answers; // answers.rt: the answer from the numbers, and refusals
 
 ghost use Rattle.std.specs.Prelude.{◌≡◌, ◌≤◌, length};
@@ -20,7 +22,7 @@ use runs::no_room;
 use runs::whole::whole_value;
 
 // What the sheet says of the full model.
-#[derive(Drop)]
+#[derive(Clone, Copy)]
 pub struct Full {
     pub value: u64,
     pub pairs: u64,

@@ -1,4 +1,6 @@
 // The model file of document 01: from bytes to a model or a refusal 1 to 9, and the tree part of a file.
+#![tactic(auto)]
+
 ghost use Rattle.std.specs.Prelude.{◌≡◌};
 ghost use Rattle.modelfile.specs.File.{refused, read_file};
 ghost use Rattle.modelfile.specs.Part.{PartAllows};

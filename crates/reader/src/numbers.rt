@@ -3,12 +3,12 @@ ghost use Rattle.std.specs.Prelude.{◌≡◌, ◌<◌, length, get_or};
 ghost use Rattle.modelfile.specs.Ends.{outside};
 ghost use Rattle.reader.specs.Numbers.{centre_of, chain_of};
 
-#[derive(Drop)]
+#[derive(Clone, Copy)]
 pub struct Centre {
     pub n: usize,
 }
 
-#[derive(Drop)]
+#[derive(Clone, Copy)]
 pub enum CentreOr {
     IsCentre(Centre),
     NoCentre,
@@ -30,12 +30,12 @@ impl Centre {
     }
 }
 
-#[derive(Drop)]
+#[derive(Clone, Copy)]
 pub struct Chain {
     pub n: usize,
 }
 
-#[derive(Drop)]
+#[derive(Clone, Copy)]
 pub enum ChainOr {
     IsChain(Chain),
     NoChain,

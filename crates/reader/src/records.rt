@@ -13,7 +13,7 @@ use crate::numbers::{Centre, CentreOr, Chain, ChainOr, centre_at, chain_at, is_o
 use modelfile::Model;
 
 // What a record says: something more of the model, that it was the last one, or a refusal with its number and place.
-#[derive(Drop)]
+#[derive(Clone, Copy)]
 pub enum Said {
     Size(Centre, Chain),
     Window(usize),

@@ -1,4 +1,6 @@
 // The calls that run over an area: start and advance.
+#![tactic(auto)]
+
 pub mod advance; // advance.rt: the advance call
 pub mod whole; // whole.rt: a whole run in one call
 

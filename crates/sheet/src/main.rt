@@ -1,5 +1,7 @@
 // A model file from standard input, and its sheet on standard output. An accepted file has at most 715 bytes, so the first 716 settle
 // the answer.
+#![tactic(auto)]
+
 use calls::SheetAnswer;
 use libc::{STDIN_FILENO, STDOUT_FILENO};
 

@@ -1,6 +1,8 @@
 // The models of the scope document's "Numbers on each side", whole and with each chain lowered: runs in slots of many budgets, runs that
 // begin at each number done, and runs in areas of each length. Told are the number done and the value after each slot, and the cells at the
 // end. What is expected was written by another reading of the scope document (tools/reference.py).
+#![tactic(auto)]
+
 use calls::{AdvanceAnswer, StartAnswer};
 use libc::STDOUT_FILENO;
 

@@ -1,4 +1,6 @@
 // The pairs of a table's joins, one join after the other, with a skip and a budget.
+#![tactic(auto)]
+
 ghost use Rattle.std.specs.Prelude.{◌≡◌, ◌≤◌, length};
 ghost use Rattle.calls.specs.Asked.{cells_in, pairs_listed};
 ghost use Rattle.plan.specs.Asking.{Prepared};

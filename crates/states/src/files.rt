@@ -8,7 +8,7 @@ pub const BYTES: usize = 720;
 
 // Digit j of the pattern, in base 4, is the number of joins after leaf j + 1, as far as there are subtrees to join; after the last leaf all are joined.
 // The leaves are the centres step * i + turn modulo 17, for i from 0 to 16, as far as there are such; with a step from 1 to 16 each centre comes once.
-#[derive(Drop)]
+#[derive(Clone, Copy)]
 pub struct Tree {
     pub pattern: u64,
     pub step: u64,
@@ -16,7 +16,7 @@ pub struct Tree {
 }
 
 // The bytes written, the number i of the next leaf, the leaves, the subtrees not joined, the joins due, and what is left of the pattern.
-#[derive(Drop)]
+#[derive(Clone, Copy)]
 struct Written {
     bytes: usize,
     next: u64,

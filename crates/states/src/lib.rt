@@ -1,5 +1,7 @@
 // A second opinion on models: drawn ones, the bytes of their files, and their values as sums over states that are gone through one by one, with
 // no coverage, tree or pair. The program `compare` holds the calls against it.
+#![tactic(auto)]
+
 pub mod counts; // counts.rt: what is counted
 pub mod draws; // draws.rt: models drawn by chance, and given ones
 pub mod edges; // edges.rt: the load at which a value reaches 2^64

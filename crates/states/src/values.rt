@@ -42,7 +42,7 @@ pub fn find_values(m: &mut [u64; LENGTH]) -> bool {
 }
 
 // The centre with the largest sum of loads so far, that sum, and the sum of the centre at hand.
-#[derive(Drop)]
+#[derive(Clone, Copy)]
 struct Busy {
     centre: u64,
     most: u64,

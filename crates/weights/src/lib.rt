@@ -1,4 +1,6 @@
 // The weight of one centre at one index, exact or too large; whether a leaf has a weight that is too large; and a leaf's cells.
+#![tactic(auto)]
+
 ghost use Rattle.std.specs.Prelude.{◌≡◌, true, false, map, ◌++◌, ◌+◌, ◌*◌, ◌^◌, ◌≤◌, ◌<◌, leb, length, take, drop};
 ghost use Rattle.sums.specs.Lists.{some};
 ghost use Rattle.arith.specs.Capped.{capped};
@@ -173,7 +175,7 @@ fn fill(
 }
 
 // The chains that are present at a leaf, in their order: those whose highest index is not 0.
-#[derive(Drop)]
+#[derive(Clone, Copy)]
 struct Present {
     count: usize,
     loads: [u64; 8],

@@ -10,8 +10,7 @@ use Rattle.modelfile.specs.Part.{tree_part, part_from, bytes_on}
 use Rattle.modelfile.specs.declared.Verdict.{Verdict}
 use Rattle.modelfile.specs.declared.Reading.{Reading}
 use Rattle.modelfile.proofs.PartLaws.{first_inside, part_accepted, part_refused, from_accepted, from_refused}
-use Rattle.reader.proofs.tree_part.Statement.{statement}
-use Rattle.reader.proofs.tree_part.Tie as tie
+use Rattle.reader.proofs.tree_part.Goals as goal
 
 -- modelfile's laws of the part, at what `read_file` has given
 module _ (file : List ℕ) {r : Reading} (e : r ≡ read_file file) where
@@ -34,55 +33,17 @@ module _ (file : List ℕ) {r : Reading} (e : r ≡ read_file file) where
 sub_self : (n : ℕ) → n - n ≡ 0
 sub_self n = omega arith
 
-read-file-requires : tie.Need-read-file-requires
-read-file-requires c κs = search rules
+pub overflow_sub-end : goal.overflow_sub-end
+overflow_sub-end c = omega (arith, part_inside _ c.read_file-r.ensures c.in-Accepted.is)
 
-enum_told : tie.Need-enum-told
-enum_told c = search rules
+pub slice_bounds-result-count : goal.slice_bounds-result-count
+slice_bounds-result-count c = omega (arith, part_inside _ c.read_file-r.ensures c.in-Accepted.is)
 
-sub-end : tie.Need-overflow-sub-end
-sub-end c = let r = c.before.before.before in omega (arith, part_inside _ r.read-file.ensures c.before.enum_told.given.1)
+pub slice_bounds-result-start : goal.slice_bounds-result-start
+slice_bounds-result-start c = omega (arith, part_inside _ c.read_file-r.ensures c.in-Accepted.is)
 
-sub-result : tie.Need-overflow-sub-result
-sub-result c = let r = c.before.before.before in omega (arith, part_inside _ r.read-file.ensures c.before.enum_told.given.1)
+pub returns-in-Accepted : goal.returns-in-Accepted
+returns-in-Accepted c = (search part-given, search from-given)
 
-part-result-start : tie.Need-slice-bounds-result-start
-part-result-start c = let r = c.before.before.before in omega (arith, part_inside _ r.read-file.ensures c.before.enum_told.given.1)
-
-part-result-end : tie.Need-slice-bounds-result-end
-part-result-end c = search rules
-
-enum-told-2 : tie.Need-enum-told-2
-enum-told-2 c = search rules
-
-sub-result-2 : tie.Need-overflow-sub-result-2
-sub-result-2 c = search rules
-
-part-result-start-2 : tie.Need-slice-bounds-result-start-2
-part-result-start-2 c = search rules
-
-part-result-end-2 : tie.Need-slice-bounds-result-end-2
-part-result-end-2 c = search rules
-
-returns : tie.Need-returns
-returns c = (search part-given, search from-given)
-
-returns-2 : tie.Need-returns-2
-returns-2 c = (search (part-empty, sub_self), search from_empty)
-
-pub tree-part-spec : {M : Type 1} → statement M
-tree-part-spec =
-    tie.close
-    (tie.spec
-    read-file-requires
-    enum_told
-    sub-end
-    sub-result
-    part-result-start
-    part-result-end
-    enum-told-2
-    sub-result-2
-    part-result-start-2
-    part-result-end-2
-    returns
-    returns-2)
+pub returns-in-Refused : goal.returns-in-Refused
+returns-in-Refused c = (search (part-empty, sub_self), search from_empty)
