@@ -1,0 +1,12 @@
+-- `busiest` meets its contract. The loop's invariant: `best` is the first of the largest among the centres before c (`Busy`).
+use Prim.Native.Nat.{◌-◌, ◌+◌}
+use native.Mathlib.Omega.{arith}
+use Rattle.busiest.proofs.BusiestLaws.{Busy, busy_first, busy_turn, busy_last}
+use borrow.Author.Rules.{rules}
+use Rattle.busiest.proofs.busiest.Given as goal
+
+abbrev pub invariant-loop-c : goal.invariant-loop-c
+invariant-loop-c l = Busy l.m l.best l.c
+
+abbrev pub decreases-loop-c : goal.decreases-loop-c
+decreases-loop-c l = l.m.centres + 1 - l.c

@@ -1,0 +1,43 @@
+-- `add_two_rows` meets its contract: one turn a row.
+use Prim.Native.Nat.{◌-◌}
+use mathlib.Core.Path.{sym, ◌∙◌}
+use mathlib.Core.List.{[]}
+use native.Mathlib.Omega.{arith}
+use Rattle.cellsums.specs.Places.{row_then, product}
+use Rattle.cellsums.proofs.RowLaws.{Summed, sum_begins, sum_again, sum_stops, sum_ends}
+use Rattle.cellsums.proofs.PlaceLaws.{within_turn, left_low, right_low}
+use borrow.Author.Rules.{rules}
+use Rattle.cellsums.proofs.add_two_rows.Goals as goal
+
+pub loop-j-init : goal.loop-j-init
+loop-j-init c = sum_begins _ _ _ _ _ _ _ _ (omega arith)
+
+pub overflow_mul-j : goal.overflow_mul-j
+overflow_mul-j c = omega (arith, left_low c.requires _ c.loop-j-test.true)
+
+pub overflow_add-l : goal.overflow_add-l
+overflow_add-l c = omega (arith, left_low c.requires _ c.loop-j-test.true)
+
+pub overflow_sub-n : goal.overflow_sub-n
+overflow_sub-n c = omega arith
+
+pub overflow_sub-n-in-loop-j : goal.overflow_sub-n-in-loop-j
+overflow_sub-n-in-loop-j c = omega arith
+
+pub overflow_mul-n : goal.overflow_mul-n
+overflow_mul-n c = omega (arith, right_low c.requires _ c.loop-j-test.true)
+
+pub overflow_add-r : goal.overflow_add-r
+overflow_add-r c = omega (arith, right_low c.requires _ c.loop-j-test.true)
+
+pub add_row-requires : goal.add_row-requires
+add_row-requires c = within_turn c.requires _ c.loop-j-test.true
+
+pub returns-in-TooLarge : goal.returns-in-TooLarge
+returns-in-TooLarge c = sum_stops _ _ _ _ _ _ _ _ _ _ c.loop-j.invariant c.loop-j-test.true (sym c.add_row.ensures ∙ c.in-TooLarge.is)
+
+pub loop-j-preserved : goal.loop-j-preserved
+loop-j-preserved c = sum_again _ _ _ _ _ _ _ _ _ _ c.loop-j.invariant c.loop-j-test.true _ (sym c.add_row.ensures ∙ c.in-Exact.is)
+
+pub returns : goal.returns
+returns c = sum_ends _ _ _ _ _ _ _ _ _ _ c.loop-j.invariant c.loop-j-test.false
