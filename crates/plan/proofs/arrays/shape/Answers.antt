@@ -1,0 +1,20 @@
+-- `arrays::shape` meets its contract. The loop's invariant: cells and strides of the chains from k + 1 on (`Shaped`).
+use Rattle.plan.proofs.BackLaws.{Shaped, shaped_first, shaped_few, shaped_turn, shape_is}
+use borrow.Author.Rules.{rules}
+use native.Mathlib.Omega.{arith}
+use Rattle.plan.proofs.arrays.shape.Goals as goal
+
+pub loop-k-init : goal.loop-k-init
+loop-k-init c = shaped_first _ _ _ _ c.requires.chains_few
+
+pub size-cells-requires : goal.size-cells-requires
+size-cells-requires c = c.requires.window_range _
+
+pub overflow_mul-cells : goal.overflow_mul-cells
+overflow_mul-cells c = record { fits = omega (arith, shaped_few _ _ _ _ c.requires.chains_few c.requires.window_range (shaped_turn _ _ _ _ _ (omega arith) c.loop-k.invariant c.coverage-cover.ensures c.stride.ensures c.size-cells.ensures)) }
+
+pub loop-k-preserved : goal.loop-k-preserved
+loop-k-preserved c = shaped_turn _ _ _ _ _ (omega arith) c.loop-k.invariant c.coverage-cover.ensures c.stride.ensures c.size-cells.ensures
+
+pub returns : goal.returns
+returns c = shape_is _ _ c.loop-k.invariant c.loop-k-test.false

@@ -1,0 +1,11 @@
+-- `nodes::pairs` meets its contract. The loop's invariant: the product of the factors from chain k + 1 on (`Product`).
+use Rattle.plan.proofs.BackLaws.{Product, product_first, product_few, product_turn, pairs_are}
+use borrow.Author.Rules.{rules}
+use native.Mathlib.Omega.{arith}
+use Rattle.plan.proofs.nodes.pairs.Given as goal
+
+abbrev pub invariant-loop-k : goal.invariant-loop-k
+invariant-loop-k l = Product l.totals l.windows l.left l.right l.joined l.initial.k l.k l.product
+
+abbrev pub decreases-loop-k : goal.decreases-loop-k
+decreases-loop-k l = l.k

@@ -1,0 +1,19 @@
+-- `some_too_large` meets its contract: the weight at the highest index tells of all.
+use mathlib.Core.Path.{sym, ◌∙◌}
+use borrow.Author.Tests.{lt-leb, le-leb}
+use Rattle.arith.proofs.CappedLaws.{exact_says, large_says}
+use Rattle.weights.proofs.MonotonyLaws.{fits_of}
+use Rattle.weights.proofs.BetweenLaws.{some_is_top}
+use borrow.Author.Rules.{rules}
+use Rattle.weights.proofs.some_too_large.Goals as goal
+
+pub weight_of-requires : goal.weight_of-requires
+weight_of-requires c =
+    let ends = c.requires.leaf_ends in
+    (c.requires.rows_value, ((ends.few, ends.windows), fits_of c.args.loads.now c.args.highs.now ends.highs_length ends.absent))
+
+pub returns-in-Exact : goal.returns-in-Exact
+returns-in-Exact c = sym (some_is_top c.requires.leaf_ends ∙ lt-leb _ _ (exact_says (sym c.weight_of.ensures ∙ c.in-Exact.is)).low)
+
+pub returns-in-TooLarge : goal.returns-in-TooLarge
+returns-in-TooLarge c = sym (some_is_top c.requires.leaf_ends ∙ le-leb _ _ (large_says (sym c.weight_of.ensures ∙ c.in-TooLarge.is)))

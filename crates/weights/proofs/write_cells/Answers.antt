@@ -1,0 +1,35 @@
+-- `write_cells` meets its contract: the leaf is filled from the first chain present on; where none is, its one cell is 1.
+use native.Mathlib.Omega.{arith}
+use Rattle.weights.proofs.LeafLaws.{taken_count, kept_to_fill, kept_filled, one_room, one_written}
+use borrow.Author.Rules.{rules}
+use Rattle.weights.proofs.write_cells.Goals as goal
+
+pub bounds-out-0 : goal.bounds-out-0
+bounds-out-0 c =
+    let kept = c.those_present-present.ensures in
+    omega (arith, c.requires.leaf_ends.1.0, one_room c.requires.leaf_ends.0 kept c.if-n-eq0.true)
+
+pub returns-then-n-eq0 : goal.returns-then-n-eq0
+returns-then-n-eq0 c =
+    let kept = c.those_present-present.ensures in
+    one_written c.requires.leaf_ends.0 kept c.if-n-eq0.true c.args.out.now c.requires.leaf_ends.1.0
+
+pub slice_bounds-fill-end : goal.slice_bounds-fill-end
+slice_bounds-fill-end c = taken_count c.those_present-present.ensures.loads_taken
+
+pub slice_bounds-fill-end-2 : goal.slice_bounds-fill-end-2
+slice_bounds-fill-end-2 c = taken_count c.those_present-present.ensures.lows_taken
+
+pub slice_bounds-fill-end-3 : goal.slice_bounds-fill-end-3
+slice_bounds-fill-end-3 c = taken_count c.those_present-present.ensures.highs_taken
+
+pub fill-requires : goal.fill-requires
+fill-requires c =
+    let kept = c.those_present-present.ensures in
+    record { rows_value = (c.requires.rows_value, omega (arith, taken_count kept.loads_taken, c.if-n-eq0.false)); to_fill = kept_to_fill c.requires.leaf_ends.0 kept _ c.requires.leaf_ends.1.0 c.requires.leaf_ends.1.1 }
+
+pub returns : goal.returns
+returns c =
+    let kept = c.those_present-present.ensures in
+    let call = c.fill in
+    kept_filled c.requires.leaf_ends.0 kept c.args.out.now _ _ (omega (arith, call.auto.1.1.1.1.1.1.1.0, c.requires.leaf_ends.1.0)) call.ensures.0 call.ensures.1
