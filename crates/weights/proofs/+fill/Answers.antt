@@ -84,8 +84,7 @@ returns-then-i-high t c =
     let to = c.requires.to_fill in
     let f = c.loop-i.invariant in
     let ways = c.binomial_in-ways.ensures in
-    let call = c.fill-next in
-    filled to refl f _ ways _ call.new.1.1.1.1.1.1.1.0 call.ensures.0 call.ensures.1 c.if-i-high.true
+    let both = filled to refl f _ ways _ c.fill-next.new.out c.fill-next.ensures.value c.fill-next.ensures.out_after c.if-i-high.true in record { value = both.0; out_after = both.1 }
 
 pub overflow_mul-power-in-loop-i : goal.overflow_mul-power-in-loop-i
 overflow_mul-power-in-loop-i t c =
@@ -107,5 +106,4 @@ loop-i-preserved t c =
     let to = c.requires.to_fill in
     let f = c.loop-i.invariant in
     let ways = c.binomial_in-ways.ensures in
-    let call = c.fill-next in
-    filling_more to refl f _ ways _ call.new.1.1.1.1.1.1.1.0 call.ensures.0 call.ensures.1 (omega (arith, f.index)) (omega (arith, call.auto.1.1.1.1.1.1.1.0))
+    filling_more to refl f _ ways _ c.fill-next.new.out c.fill-next.ensures.value c.fill-next.ensures.out_after (omega (arith, f.index)) (omega (arith, c.fill-next.auto.out))

@@ -9,7 +9,7 @@ use Rattle.weights.proofs.FillingLaws.{Filling, start_low, filling_start, index_
 use Rattle.weights.proofs.+fill.Given as goal
 
 abbrev pub decreases-fill : goal.decreases-fill
-decreases-fill l = ?
+decreases-fill l = length l.loads.now - l.k
 
 abbrev pub invariant-loop-i : goal.invariant-loop-i
 invariant-loop-i l =

@@ -73,7 +73,7 @@ returns-then-i-high c =
     let f = c.loop-i.invariant in
     let ways = c.binomial_in-ways.ensures in
     let last = c.requires.rows_value.1 in
-    last_filled to refl f _ ways last c.if-i-high.true
+    let both = last_filled to refl f _ ways last c.if-i-high.true in record { value = both.0; out_after = both.1 }
 
 pub overflow_mul-power : goal.overflow_mul-power
 overflow_mul-power c =

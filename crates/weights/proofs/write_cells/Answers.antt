@@ -7,12 +7,12 @@ use Rattle.weights.proofs.write_cells.Goals as goal
 pub bounds-out-0 : goal.bounds-out-0
 bounds-out-0 c =
     let kept = c.those_present-present.ensures in
-    omega (arith, c.requires.leaf_ends.1.0, one_room c.requires.leaf_ends.0 kept c.if-n-eq0.true)
+    omega (arith, c.requires.out_len, one_room c.requires.leaf_ends kept c.if-n-eq0.true)
 
 pub returns-then-n-eq0 : goal.returns-then-n-eq0
 returns-then-n-eq0 c =
     let kept = c.those_present-present.ensures in
-    one_written c.requires.leaf_ends.0 kept c.if-n-eq0.true c.args.out.now c.requires.leaf_ends.1.0
+    one_written c.requires.leaf_ends kept c.if-n-eq0.true c.args.out.now c.requires.out_len
 
 pub slice_bounds-fill-end : goal.slice_bounds-fill-end
 slice_bounds-fill-end c = taken_count c.those_present-present.ensures.loads_taken
@@ -26,10 +26,9 @@ slice_bounds-fill-end-3 c = taken_count c.those_present-present.ensures.highs_ta
 pub fill-requires : goal.fill-requires
 fill-requires c =
     let kept = c.those_present-present.ensures in
-    record { rows_value = (c.requires.rows_value, omega (arith, taken_count kept.loads_taken, c.if-n-eq0.false)); to_fill = kept_to_fill c.requires.leaf_ends.0 kept _ c.requires.leaf_ends.1.0 c.requires.leaf_ends.1.1 }
+    record { rows_value = (c.requires.rows_value, omega (arith, taken_count kept.loads_taken, c.if-n-eq0.false)); to_fill = kept_to_fill c.requires.leaf_ends kept _ c.requires.out_len c.requires.highs_value }
 
 pub returns : goal.returns
 returns c =
     let kept = c.those_present-present.ensures in
-    let call = c.fill in
-    kept_filled c.requires.leaf_ends.0 kept c.args.out.now _ _ (omega (arith, call.auto.1.1.1.1.1.1.1.0, c.requires.leaf_ends.1.0)) call.ensures.0 call.ensures.1
+    kept_filled c.requires.leaf_ends kept c.args.out.now _ _ (omega (arith, c.fill.auto.out, c.requires.out_len)) c.fill.ensures.value c.fill.ensures.out_after
