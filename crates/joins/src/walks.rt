@@ -2,7 +2,7 @@
 ghost use Rattle.std.specs.Prelude.{◌≡◌, [], ◌<◌, ◌^◌, ltb, length, get_or, set};
 ghost use Rattle.cellsums.specs.Places.{places};
 ghost use Rattle.joins.specs.Walk.{state, walk, quota};
-ghost use Rattle.joins.specs.Loops.{cell_pairs, loop_then, first_loop, loop_pairs, Inside, times as timesOf, turn_at, Numbers, Sound};
+ghost use Rattle.joins.specs.Loops.{cell_pairs, loop_then, first_loop, loop_pairs, Inside, times as times_of, turn_at, Numbers, Sound};
 
 use crate::{Join, Loop, Quota, Turn, next};
 use arith::Fits;
@@ -185,8 +185,8 @@ fn set_at(rows: &mut [usize], p: usize, v: usize)
 }
 
 fn times(count: usize, p: usize, len: usize, n: usize) -> usize
-    requires { timesOf (ltb p len) count n < 2 ^ 64 }
-    ensures { result ≡ timesOf (ltb p len) count n }
+    requires { times_of (ltb p len) count n < 2 ^ 64 }
+    ensures { result ≡ times_of (ltb p len) count n }
 {
     if p < len { count * n } else { count }
 }

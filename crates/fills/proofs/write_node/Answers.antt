@@ -1,0 +1,20 @@
+-- `write_node` meets its contract: a join's part is cleared and put back, a leaf's weights are written.
+use mathlib.Core.Path.{sym, ap, ◌∙◌}
+use Rattle.sums.specs.Lists.{some}
+use Rattle.calls.specs.Start.{too_large}
+use Rattle.fills.specs.Nodes.{put}
+use Rattle.fills.proofs.LeafLaws.{part_room}
+use Rattle.fills.proofs.NodeLaws.{leaf_cells_lem, join_put}
+use borrow.Author.Rules.{rules}
+use Rattle.fills.proofs.write_node.Goals as goal
+
+pub returns-then-n-eq0 : goal.returns-then-n-eq0
+returns-then-n-eq0 c =
+    join_put _ c.args.ch c.args.n c.args.area.now c.if-n-eq0.true c.clear.ensures (part_room _ _ _ c.requires.cells_in_bounds)
+
+pub write_leaf-requires : goal.write_leaf-requires
+write_leaf-requires c = record { rows_value = (c.requires.rows_value.0, c.requires.rows_value.1 c.if-n-eq0.false); cells_in_bounds = c.requires.cells_in_bounds; n_value = ap (some too_large) (sym (leaf_cells_lem _ _ _ c.if-n-eq0.false)) ∙ c.requires.n_value }
+
+pub returns : goal.returns
+returns c =
+    c.write_leaf.ensures ∙ ap (λ l. put c.args.n.base l c.args.area.now) (sym (leaf_cells_lem _ _ _ c.if-n-eq0.false))

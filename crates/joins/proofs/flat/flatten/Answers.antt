@@ -1,0 +1,18 @@
+-- `flatten` meets its contract: one turn a chain.
+use Prim.Native.Nat.{◌-◌}
+use lib.ListN.{length}
+use Rattle.joins.proofs.BuildLaws.{Building, building_none, building_room, building_more, built}
+use borrow.Author.Rules.{rules}
+use Rattle.joins.proofs.flat.flatten.Goals as goal
+
+pub loop-k-init : goal.loop-k-init
+loop-k-init c = building_none _ _ _ _ c.requires.2 _ _ c.requires.0 c.requires.1
+
+pub add_chain-u-requires : goal.add_chain-u-requires
+add_chain-u-requires c = building_room _ _ _ _ c.requires.2 _ _ _ _ c.loop-k.invariant c.loop-k-test.true
+
+pub loop-k-preserved : goal.loop-k-preserved
+loop-k-preserved c = building_more _ _ _ _ c.requires.2 _ _ _ _ c.loop-k.invariant c.loop-k-test.true _ _ _ c.add_chain-u.auto.loops c.add_chain-u.auto.rows c.add_chain-u.ensures
+
+pub returns : goal.returns
+returns c = built _ _ _ _ c.requires.2 _ _ _ _ c.loop-k.invariant c.loop-k-test.false

@@ -1,0 +1,20 @@
+-- `walk_pair` meets its contract: each way out is one of the ways that a pair can go.
+use mathlib.Core.Path.{sym, ◌∙◌}
+use Rattle.joins.proofs.PairLaws.{pair_over, pair_skipped, pair_spent, pair_added, pair_too_large}
+use borrow.Author.Rules.{rules}
+use Rattle.joins.proofs.walks.walk_pair.Goals as goal
+
+pub returns-then-q : goal.returns-then-q
+returns-then-q c = pair_over _ _ _ _ _ _ c.if-q.true
+
+pub returns-then-q-gt0 : goal.returns-then-q-gt0
+returns-then-q-gt0 c = rw c.remaining.ensures (pair_skipped _ _ _ _ _ _ c.if-q.false c.if-q-gt0.true)
+
+pub returns-then-q-eq0 : goal.returns-then-q-eq0
+returns-then-q-eq0 c = pair_spent _ _ _ _ _ _ c.if-q.false c.if-q-gt0.false c.if-q-eq0.true
+
+pub returns-in-Exact : goal.returns-in-Exact
+returns-in-Exact c = rw c.remaining-in-Exact.ensures (pair_added _ _ _ _ _ _ _ _ c.requires c.cell-x.ensures c.if-q.false c.if-q-gt0.false c.if-q-eq0.false _ _ c.put.ensures (sym c.add_pair.ensures ∙ c.in-Exact.is))
+
+pub returns-in-TooLarge : goal.returns-in-TooLarge
+returns-in-TooLarge c = rw c.remaining-in-TooLarge.ensures (pair_too_large _ _ _ _ _ _ _ _ c.requires c.cell-x.ensures c.if-q.false c.if-q-gt0.false c.if-q-eq0.false (sym c.add_pair.ensures ∙ c.in-TooLarge.is))
