@@ -1,0 +1,32 @@
+-- `numerators` meets its contract. The loop's invariant: the numerators of the first k chains stand in their places, each below 2^64
+-- (`Lowerings`).
+use Prim.Native.Nat.{◌-◌}
+use native.Mathlib.Omega.{arith}
+use Rattle.rates.proofs.LoweredLaws.{kept_then}
+use Rattle.rates.proofs.NumberedLaws.{Lowerings, lowerings_first, lowerings_turn, lowerings_stop, lowerings_last}
+use borrow.Author.Rules.{rules}
+use Rattle.rates.proofs.numerators.Goals as goal
+
+pub loop-k-init : goal.loop-k-init
+loop-k-init c = lowerings_first _ c.requires.guaranteed.0 _
+
+pub numerator-requires : goal.numerator-requires
+numerator-requires c = record { rows_value = c.requires.rows_value; guaranteed = (c.requires.guaranteed.0, omega arith, omega (arith, c.requires.guaranteed.1, c.loop-k.invariant.kept.long)) }
+
+pub bounds-numbers-k : goal.bounds-numbers-k
+bounds-numbers-k c = omega (arith, c.loop-k.invariant.filled.long, c.requires.guaranteed.0.chains_range, c.loop-k-test.true)
+
+pub loop-k-preserved : goal.loop-k-preserved
+loop-k-preserved c = lowerings_turn _ c.requires.guaranteed.0 c.loop-k.invariant c.loop-k-test.true c.numerator.ensures.value c.in-Exact.is c.numerator.ensures.kept
+
+pub shape_of-area-in-TooLarge : goal.shape_of-area-in-TooLarge
+shape_of-area-in-TooLarge c = (kept_then c.loop-k.invariant.kept c.numerator.ensures.kept).long
+
+pub returns-in-TooLarge : goal.returns-in-TooLarge
+returns-in-TooLarge c = record { numbered = lowerings_stop _ c.requires.guaranteed.0 _ c.loop-k-test.true c.numerator.ensures.value c.in-TooLarge.is; kept = kept_then c.loop-k.invariant.kept c.numerator.ensures.kept }
+
+pub shape_of-area : goal.shape_of-area
+shape_of-area c = c.loop-k.invariant.kept.long
+
+pub returns : goal.returns
+returns c = record { numbered = lowerings_last _ c.requires.guaranteed.0 c.loop-k.invariant c.loop-k-test.false; kept = c.loop-k.invariant.kept }
