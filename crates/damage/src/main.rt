@@ -3,7 +3,7 @@
 #![tactic(auto)]
 
 use calls::PlanAnswer;
-use libc::STDOUT_FILENO;
+use std::io;
 
 // B of the scope document.
 const B: [u8; 38] = [
@@ -14,47 +14,47 @@ const B: [u8; 38] = [
 // What a byte is set to.
 const VALUES: [u8; 12] = [0, 1, 2, 3, 4, 5, 6, 7, 8, 16, 17, 255];
 
-fn say(n: u64) {
-    io::write_all(STDOUT_FILENO, b" ");
-    io::print_decimal(STDOUT_FILENO, n);
+fn say(rt: &impl Print, n: u64) -> io::Result<()> {
+    print!(rt; " {n}")
 }
 
 // Number and place of a refusal, or 0 0 with cells and pairs.
-fn answer(file: &[u8], lower: u64) {
+fn answer(rt: &impl Print, file: &[u8], lower: u64) -> io::Result<()> {
     match plan::plan(file, lower) {
         PlanAnswer::Planned { cells, pairs } => {
-            say(0);
-            say(0);
-            say(cells);
-            say(pairs);
+            say(rt, 0)?;
+            say(rt, 0)?;
+            say(rt, cells)?;
+            say(rt, pairs)?;
         }
         PlanAnswer::Refused { number, place } => {
-            say(number);
-            say(place);
+            say(rt, number)?;
+            say(rt, place)?;
         }
     }
-    io::write_all(STDOUT_FILENO, b"\n");
+    print!(rt; "\n")
 }
 
-fn line(name: u8, at: usize, value: usize) {
+fn line(rt: &impl Print, name: u8, at: usize, value: usize) -> io::Result<()> {
     let mut tag = [32u8; 1];
     tag[0] = name;
-    io::write_all(STDOUT_FILENO, &tag);
-    say(at as u64);
-    say(value as u64);
-    io::write_all(STDOUT_FILENO, b":");
+    rt.write_all(&tag)?;
+    say(rt, at as u64)?;
+    say(rt, value as u64)?;
+    print!(rt; ":")
 }
 
 // B up to a place.
-fn front(b: &[u8], at: usize) {
-    line(b'f', at, 0);
+fn front(rt: &impl Print, b: &[u8], at: usize) -> io::Result<()> {
+    line(rt, b'f', at, 0)?;
     if at <= b.len() {
-        answer(&b[..at], 0);
+        answer(rt, &b[..at], 0)?;
     }
+    Ok(())
 }
 
-fn whole(b: &[u8; 38]) {
-    answer(b, 0);
+fn whole(rt: &impl Print, b: &[u8; 38]) -> io::Result<()> {
+    answer(rt, b, 0)
 }
 
 fn with_byte(at: usize, value: u8) -> [u8; 38] {
@@ -66,15 +66,16 @@ fn with_byte(at: usize, value: u8) -> [u8; 38] {
 }
 
 // B with the byte at a place set to each value.
-fn set(at: usize) {
+fn set(rt: &impl Print, at: usize) -> io::Result<()> {
     let values = VALUES;
     let mut i: usize = 0;
     while i < 12 {
         let b = with_byte(at, values[i]);
-        line(b's', at, i);
-        whole(&b);
+        line(rt, b's', at, i)?;
+        whole(rt, &b)?;
         i += 1;
     }
+    Ok(())
 }
 
 // What stands at i in B with one byte more at a place.
@@ -102,41 +103,42 @@ fn longer(at: usize, value: u8) -> [u8; 39] {
     out
 }
 
-fn whole_longer(b: &[u8; 39]) {
-    answer(b, 0);
+fn whole_longer(rt: &impl Print, b: &[u8; 39]) -> io::Result<()> {
+    answer(rt, b, 0)
 }
 
-fn put(at: usize, value: u8) {
+fn put(rt: &impl Print, at: usize, value: u8) -> io::Result<()> {
     let b = longer(at, value);
-    line(b'p', at, 0);
-    whole_longer(&b);
+    line(rt, b'p', at, 0)?;
+    whole_longer(rt, &b)
 }
 
-fn all(at: usize) {
+fn all(rt: &impl Print, at: usize) -> io::Result<()> {
     let b = B;
-    front(&b, at);
-    set(at);
-    put(at, 3);
-    put(at, 4);
-    put(at, 5);
-    put(at, 6);
+    front(rt, &b, at)?;
+    set(rt, at)?;
+    put(rt, at, 3)?;
+    put(rt, at, 4)?;
+    put(rt, at, 5)?;
+    put(rt, at, 6)
 }
 
-fn lowered(b: &[u8; 38], lower: u64) {
-    line(b'l', 0, 0);
-    answer(b, lower);
+fn lowered(rt: &impl Print, b: &[u8; 38], lower: u64) -> io::Result<()> {
+    line(rt, b'l', 0, 0)?;
+    answer(rt, b, lower)
 }
 
-fn main() {
+fn main(rt: HostRuntime) -> io::Result<()> {
     let b = B;
-    lowered(&b, 0);
-    lowered(&b, 1);
-    lowered(&b, 2);
-    lowered(&b, 3);
-    lowered(&b, 4);
+    lowered(&rt, &b, 0)?;
+    lowered(&rt, &b, 1)?;
+    lowered(&rt, &b, 2)?;
+    lowered(&rt, &b, 3)?;
+    lowered(&rt, &b, 4)?;
     let mut at: usize = 0;
     while at < 39 {
-        all(at);
+        all(&rt, at)?;
         at += 1;
     }
+    Ok(())
 }

@@ -5,6 +5,7 @@ use calls::SheetAnswer;
 use states::counts::{DIFFERENCES, RUNS, TREES, count};
 use states::memory::{CHAINS, DUES, FIRST, LENGTH, MOST, at};
 use states::values::busiest;
+use std::io;
 
 // A plan, and what a run by it tells in the end; refusals are 0 where nothing is refused. `kept` is whether the cell past the model's was left.
 #[derive(Clone, Copy)]
@@ -44,18 +45,18 @@ fn is_due(r: Run, due: u64) -> bool {
     r.value == due
 }
 
-fn tell_plan(m: &[u64; LENGTH], lower: u64, r: Run) {
-    tell(b"\n  lowered", lower);
-    tell(b": pairs", r.pairs);
-    tell(b" cells", r.cells);
-    say(b" states");
-    tell_value(at(m, DUES, lower));
+fn tell_plan(rt: &impl Print, m: &[u64; LENGTH], lower: u64, r: Run) -> io::Result<()> {
+    tell(rt, b"\n  lowered", lower)?;
+    tell(rt, b": pairs", r.pairs)?;
+    tell(rt, b" cells", r.cells)?;
+    say(rt, b" states")?;
+    tell_value(rt, at(m, DUES, lower))
 }
 
-fn tell_run(r: Run) {
-    tell(b" run", r.value);
-    tell(b" done", r.done);
-    tell(b" refused", r.refusal);
+fn tell_run(rt: &impl Print, r: Run) -> io::Result<()> {
+    tell(rt, b" run", r.value)?;
+    tell(rt, b" done", r.done)?;
+    tell(rt, b" refused", r.refusal)
 }
 
 pub fn judge_run(m: &mut [u64; LENGTH], lower: u64, r: Run) {
@@ -64,11 +65,12 @@ pub fn judge_run(m: &mut [u64; LENGTH], lower: u64, r: Run) {
 }
 
 // The lines of the scope document are told.
-pub fn tell_line(m: &[u64; LENGTH], lower: u64, r: Run) {
+pub fn tell_line(rt: &impl Print, m: &[u64; LENGTH], lower: u64, r: Run) -> io::Result<()> {
     if at(m, FIRST, 0) != 0 {
-        tell_plan(m, lower, r);
-        tell_run(r);
+        tell_plan(rt, m, lower, r)?;
+        tell_run(rt, r)?;
     }
+    Ok(())
 }
 
 fn all_zero(area: &[u64], cells: u64) -> bool {

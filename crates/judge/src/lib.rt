@@ -8,24 +8,23 @@ pub mod shapes; // shapes.rt: models drawn by chance, shape by shape
 pub mod texts; // texts.rt: words and numbers on standard output
 
 use states::memory::LENGTH;
+use std::io;
 
 // How many models: the lines of the scope document, then those of all shapes.
 pub const MODELS: u64 = 1052;
 
 // Model j takes its place.
-pub fn begin(m: &mut [u64; LENGTH], j: u64) {
+pub fn begin(rt: &impl Print, m: &mut [u64; LENGTH], j: u64) -> io::Result<()> {
     if j < 12 {
-        lines::begin_line(m, j);
-        return;
+        return lines::begin_line(rt, m, j);
     }
-    shapes::begin_drawn(m, j - 12);
+    shapes::begin_drawn(rt, m, j - 12)
 }
 
 // What is told after model j.
-pub fn end(m: &mut [u64; LENGTH], j: u64) {
+pub fn end(rt: &impl Print, m: &mut [u64; LENGTH], j: u64) -> io::Result<()> {
     if j < 12 {
-        lines::end_line(m);
-        return;
+        return lines::end_line(rt, m);
     }
-    shapes::end_drawn(m, j - 12);
+    shapes::end_drawn(rt, m, j - 12)
 }

@@ -3,6 +3,7 @@ use crate::texts::{say, tell};
 use states::counts::{COUNTS, DIFFERENCES};
 use states::draws::give_model;
 use states::memory::{FIRST, LENGTH, TALLY, at, clear, put};
+use std::io;
 
 // Centres, chains, windows of two chains, and their loads at each of three centres.
 const B: [u64; 10] = [3, 2, 1, 1, 1, 2, 3, 0, 0, 1];
@@ -84,9 +85,9 @@ fn name_of(i: u64) -> [u8; 52] {
     }
 }
 
-fn say_line(i: u64) {
+fn say_line(rt: &impl Print, i: u64) -> io::Result<()> {
     let name = name_of(i);
-    say(&name);
+    say(rt, &name)
 }
 
 pub fn give_b(m: &mut [u64; LENGTH]) {
@@ -98,14 +99,14 @@ fn first_leaf(i: u64) -> u64 {
     if i == 1 { 2 } else { 1 }
 }
 
-pub fn begin_line(m: &mut [u64; LENGTH], i: u64) {
+pub fn begin_line(rt: &impl Print, m: &mut [u64; LENGTH], i: u64) -> io::Result<()> {
     give_model(m, given(i));
     put(m, FIRST, 0, first_leaf(i));
     clear(m, TALLY, COUNTS);
-    say_line(i);
+    say_line(rt, i)
 }
 
-pub fn end_line(m: &[u64; LENGTH]) {
-    tell(b"\n  differences", at(m, TALLY, DIFFERENCES));
-    say(b"\n");
+pub fn end_line(rt: &impl Print, m: &[u64; LENGTH]) -> io::Result<()> {
+    tell(rt, b"\n  differences", at(m, TALLY, DIFFERENCES))?;
+    say(rt, b"\n")
 }

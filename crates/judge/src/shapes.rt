@@ -4,6 +4,7 @@ use states::counts::{COUNTS, EDGES, count};
 use states::draws::{draw_model, set_shape};
 use states::edges::{first_side, is_edge, second_side};
 use states::memory::{FIRST, LENGTH, SHAPE, SIDE, TALLY, at, clear, put};
+use std::io;
 
 // The least and the most centres, chains, windows and loads, a chance of so many sixteenths that a chain visits a centre, and 1 for models on both
 // sides of 2^64. With a window of 5 a load of 65535 is always enough to reach it.
@@ -95,9 +96,9 @@ fn name_of(i: u64) -> [u8; 30] {
     }
 }
 
-fn say_shape(i: u64) {
+fn say_shape(rt: &impl Print, i: u64) -> io::Result<()> {
     let name = name_of(i);
-    say(&name);
+    say(rt, &name)
 }
 
 fn draw_next(m: &mut [u64; LENGTH]) {
@@ -111,21 +112,22 @@ fn draw_next(m: &mut [u64; LENGTH]) {
     }
 }
 
-fn begin_shape(m: &mut [u64; LENGTH], i: u64) {
+fn begin_shape(rt: &impl Print, m: &mut [u64; LENGTH], i: u64) -> io::Result<()> {
     put(m, FIRST, 0, 0);
     put(m, SIDE, 0, 0);
     clear(m, TALLY, COUNTS);
     set_shape(m, shape_of(i));
-    say_shape(i);
+    say_shape(rt, i)
 }
 
-pub fn begin_drawn(m: &mut [u64; LENGTH], j: u64) {
+pub fn begin_drawn(rt: &impl Print, m: &mut [u64; LENGTH], j: u64) -> io::Result<()> {
     if j % 80 == 0 {
-        begin_shape(m, j / 80);
+        begin_shape(rt, m, j / 80)?;
         draw_next(m);
-        return;
+        return Ok(());
     }
     draw_next(m);
+    Ok(())
 }
 
 fn count_edge(m: &mut [u64; LENGTH]) {
@@ -134,9 +136,10 @@ fn count_edge(m: &mut [u64; LENGTH]) {
     }
 }
 
-pub fn end_drawn(m: &mut [u64; LENGTH], j: u64) {
+pub fn end_drawn(rt: &impl Print, m: &mut [u64; LENGTH], j: u64) -> io::Result<()> {
     count_edge(m);
     if j % 80 == 79 {
-        tell_all(m, TALLY, COUNTS);
+        tell_all(rt, m, TALLY, COUNTS)?;
     }
+    Ok(())
 }

@@ -1,32 +1,32 @@
 // Words and numbers on standard output.
 use crate::cells::cell;
-use libc::STDOUT_FILENO;
 use states::memory::{MOST, plus};
+use std::io;
 
-pub fn say(text: &[u8]) {
-    io::write_all(STDOUT_FILENO, text);
+pub fn say(rt: &impl Print, text: &[u8]) -> io::Result<()> {
+    rt.write_all(text)
 }
 
-pub fn tell(word: &[u8], n: u64) {
-    io::write_all(STDOUT_FILENO, word);
-    io::write_all(STDOUT_FILENO, b" ");
-    io::print_decimal(STDOUT_FILENO, n);
+pub fn tell(rt: &impl Print, word: &[u8], n: u64) -> io::Result<()> {
+    rt.write_all(word)?;
+    print!(rt; " {n}")
 }
 
-pub fn tell_value(v: u64) {
+pub fn tell_value(rt: &impl Print, v: u64) -> io::Result<()> {
     if v == MOST {
-        say(b" 2^64 or more");
+        say(rt, b" 2^64 or more")?;
     } else {
-        tell(b"", v);
+        tell(rt, b"", v)?;
     }
+    Ok(())
 }
 
 // So many numbers from a place on, in a line.
-pub fn tell_all(numbers: &[u64], place: u64, n: u64) {
+pub fn tell_all(rt: &impl Print, numbers: &[u64], place: u64, n: u64) -> io::Result<()> {
     let mut i: u64 = 0;
     while i < n {
-        tell(b"", cell(numbers, plus(place, i)));
+        tell(rt, b"", cell(numbers, plus(place, i)))?;
         i += 1;
     }
-    say(b"\n");
+    say(rt, b"\n")
 }

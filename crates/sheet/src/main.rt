@@ -3,68 +3,64 @@
 #![tactic(auto)]
 
 use calls::SheetAnswer;
-use libc::{STDIN_FILENO, STDOUT_FILENO};
+use std::io;
+use std::io::Read;
 
-fn refused(number: u64, place: u64) {
-    io::write_all(STDOUT_FILENO, b"refused ");
-    io::print_decimal(STDOUT_FILENO, number);
-    io::write_all(STDOUT_FILENO, b" at ");
-    io::print_decimal(STDOUT_FILENO, place);
-    io::write_all(STDOUT_FILENO, b"\n");
+fn refused(rt: &impl Print, number: u64, place: u64) -> io::Result<()> {
+    print!(rt; "refused {number} at {place}\n")
 }
 
-fn full(value: u64, pairs: u64, cells: u64) {
-    io::write_all(STDOUT_FILENO, b"value ");
-    io::print_decimal(STDOUT_FILENO, value);
-    io::write_all(STDOUT_FILENO, b"\npairs ");
-    io::print_decimal(STDOUT_FILENO, pairs);
-    io::write_all(STDOUT_FILENO, b" cells ");
-    io::print_decimal(STDOUT_FILENO, cells);
-    io::write_all(STDOUT_FILENO, b"\n");
+fn full(rt: &impl Print, value: u64, pairs: u64, cells: u64) -> io::Result<()> {
+    print!(rt; "value {value}\npairs {pairs} cells {cells}\n")
 }
 
 // A chain's rate, not reduced.
-fn chain(number: u64, numerator: u64, value: u64) {
-    io::write_all(STDOUT_FILENO, b"chain ");
-    io::print_decimal(STDOUT_FILENO, number);
-    io::write_all(STDOUT_FILENO, b" ");
-    io::print_decimal(STDOUT_FILENO, numerator);
-    io::write_all(STDOUT_FILENO, b"/");
-    io::print_decimal(STDOUT_FILENO, value);
-    io::write_all(STDOUT_FILENO, b"\n");
+fn chain(rt: &impl Print, number: u64, numerator: u64, value: u64) -> io::Result<()> {
+    print!(rt; "chain {number} {numerator}/{value}\n")
 }
 
-fn chains(numerators: [u64; 8], count: u64, value: u64) {
+fn chains(rt: &impl Print, numerators: [u64; 8], count: u64, value: u64) -> io::Result<()> {
     let mut k: usize = 0;
     while k < 8 {
         if k as u64 >= count {
-            return;
+            return Ok(());
         }
-        chain(k as u64 + 1, numerators[k], value);
+        chain(rt, k as u64 + 1, numerators[k], value)?;
         k += 1;
     }
+    Ok(())
 }
 
-fn busiest(centre: u64) {
-    io::write_all(STDOUT_FILENO, b"busiest ");
-    io::print_decimal(STDOUT_FILENO, centre);
-    io::write_all(STDOUT_FILENO, b"\n");
+fn busiest(rt: &impl Print, centre: u64) -> io::Result<()> {
+    print!(rt; "busiest {centre}\n")
 }
 
-fn print(answer: SheetAnswer) {
+fn print(rt: &impl Print, answer: SheetAnswer) -> io::Result<()> {
     if answer.refusal != 0 {
-        refused(answer.refusal, answer.place);
-        return;
+        return refused(rt, answer.refusal, answer.place);
     }
     let numerators = answer.numerators;
-    full(answer.value, answer.pairs, answer.cells);
-    chains(numerators, answer.chains, answer.value);
-    busiest(answer.busiest);
+    full(rt, answer.value, answer.pairs, answer.cells)?;
+    chains(rt, numerators, answer.chains, answer.value)?;
+    busiest(rt, answer.busiest)
 }
 
-fn main() {
+// As many bytes as there are, and at most as many as `file` takes; how many.
+fn read_full(input: &mut impl Read, file: &mut [u8; 716]) -> io::Result<usize> {
+    let mut n: usize = 0;
+    while n < 716 {
+        let more = input.read(&mut file[n..])?;
+        if more == 0 {
+            return Ok(n);
+        }
+        n += more;
+    }
+    Ok(n)
+}
+
+fn main(rt: HostRuntime) -> io::Result<()> {
     let mut file = [0u8; 716];
-    let n = io::read_full(STDIN_FILENO, &mut file);
+    let n = read_full(&mut rt.reader(), &mut file)?;
     let mut area = [0u64; 8192];
-    print(ratesheet::sheet(&file[..n], &mut area));
+    print(&rt, ratesheet::sheet(&file[..n], &mut area))
 }
