@@ -2,6 +2,8 @@
 // the answer.
 #![tactic(auto)]
 
+ghost use Rattle.std.specs.Prelude.{◌≤◌, IfOk};
+
 use calls::SheetAnswer;
 use std::io;
 use std::io::Read;
@@ -46,7 +48,9 @@ fn print(rt: &impl Print, answer: SheetAnswer) -> io::Result<()> {
 }
 
 // As many bytes as there are, and at most as many as `file` takes; how many.
-fn read_full(input: &mut impl Read, file: &mut [u8; 716]) -> io::Result<usize> {
+fn read_full(input: &mut impl Read, file: &mut [u8; 716]) -> io::Result<usize>
+    ensures { IfOk result (λ n. n ≤ 716) }
+{
     let mut n: usize = 0;
     while n < 716 {
         let more = input.read(&mut file[n..])?;
