@@ -1,7 +1,7 @@
 /*
  * Fenmantle: exact channel rates of a closed queueing network, for boards.
  *
- * Link target/staticlib/libboard.a (rt staticlib board). The library needs no heap, no operating system and no C library beyond
+ * Link crates/board/out/libboard.a (rt lib in crates/board). The library needs no heap, no operating system and no C library beyond
  * memcpy, memset and the like; it keeps nothing between calls. All state is the caller's: the model file, the work area, and the
  * number of pairs done.
  *

@@ -1,5 +1,5 @@
-//! Links the board library: the archive in FENMANTLE_LIB_DIR where that is set, else the one that `rt staticlib board` proves and builds
-//! at the repository's root.
+//! Links the board library: the archive in FENMANTLE_LIB_DIR where that is set, else the one that `rt lib` proves and builds
+//! in `crates/board`.
 
 use std::env;
 use std::fs;
@@ -28,18 +28,33 @@ fn main() {
 
 fn build() -> PathBuf {
     let root = Path::new(&env::var_os("CARGO_MANIFEST_DIR").expect("cargo sets it")).join("..");
-    // Not the archive: it is newer than this script's start, and cargo would build it again each time.
-    println!("cargo:rerun-if-changed={}", root.join("crates").display());
+    // Not the folder with the archive: it is newer than this script's start, and cargo would build it again each time.
+    for part in sources(&root) {
+        println!("cargo:rerun-if-changed={}", part.display());
+    }
     println!("cargo:rerun-if-changed={}", root.join("crates.txt").display());
-    match Command::new("rt").args(["staticlib", "board"]).current_dir(&root).output() {
-        Ok(said) if said.status.success() => root.join("target/staticlib"),
+    match Command::new("rt").arg("lib").current_dir(root.join("crates/board")).output() {
+        Ok(said) if said.status.success() => root.join("crates/board/out"),
         Ok(said) => {
-            eprintln!("rt staticlib board failed:\n{}{}", String::from_utf8_lossy(&said.stdout), String::from_utf8_lossy(&said.stderr));
+            eprintln!("rt lib failed in crates/board:\n{}{}", String::from_utf8_lossy(&said.stdout), String::from_utf8_lossy(&said.stderr));
             exit(1);
         }
         Err(why) => {
-            eprintln!("rt staticlib board could not be run ({why}): put the Rattle kit on the path, or set FENMANTLE_LIB_DIR");
+            eprintln!("rt lib could not be run in crates/board ({why}): put the Rattle kit on the path, or set FENMANTLE_LIB_DIR");
             exit(1);
         }
     }
+}
+
+/// What the crates are proved from: their folders but for `out`, which is made.
+fn sources(root: &Path) -> Vec<PathBuf> {
+    let mut parts = Vec::new();
+    for of in fs::read_dir(root.join("crates")).into_iter().flatten().flatten() {
+        for part in fs::read_dir(of.path()).into_iter().flatten().flatten() {
+            if part.file_name() != "out" {
+                parts.push(part.path());
+            }
+        }
+    }
+    parts
 }

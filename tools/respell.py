@@ -5,7 +5,7 @@ usage: tools/respell.py        at the top of a checkout that /opt/rattle/port/po
 
 What turns: names that specs/ and proofs/ declare (`sumOver` to `sum_over`, `antiV-assoc` to `anti_v_assoc`), wherever antt, a clause, a comment, an edit that
 must fail or a page has them. What stays: names of src/ and of C, strings, types and modules, `B` and `G` of the documents, inputs and outputs.
-A dash stays where the word behind it is itself a name that the law's file sees (`take-map`, `length-indices`); else it becomes `_` (`all_is`).
+A dash stays in a law's name where both words beside it are names that its file sees (`take-map`, `length-indices`); else it becomes `_` (`all_is`).
 It stops, and writes nothing, where two names of one file would fall together, or where a name of the kit would turn.
 """
 
@@ -97,16 +97,18 @@ def table_of(root):
     table, own_fields, clash = {}, set(), []
     texts = {path: code_of(read(path)) for path in files(os.path.join(root, "crates"), (".antt",))}
     for path, code in texts.items():
+        if own_file(path):
+            own_fields |= set(fields(code))
+    for path, code in texts.items():
         if not own_file(path):
             continue
-        own_fields |= set(fields(code))
         seen = {name for _, name in imported(code)} | {name for words, name in declared(code) if re.search("unfoldable|abbrev|data|record", words) or not words}
         seen = OPERATORS | {snake(name) for name in seen if "-" not in name}
         for _, name in declared(code):
             parts = [snake(part) for part in name.replace("·", "-").split("-")]
             new, before = parts[0], parts[0]
             for part in parts[1:]:
-                kept = part in seen and before in seen
+                kept = part in seen and before in seen and name not in own_fields
                 new += ("-" if kept else "_") + part
                 before = part if kept else before + "_" + part
             table.setdefault(name, APART.get(name, new))

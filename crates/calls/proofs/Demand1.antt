@@ -1,42 +1,34 @@
 -- Demand 1. Every call ends with an answer. "Every public call takes any bytes, any numbers and any work area. It has no `requires`. A bad model, too little
 -- room or a value of 2^64 or more is refused by its number; what the refusal returns and what it leaves in the work area is fixed." The calls are total
 -- functions; the record Demand1 says, for every file, each call's whole answer (number, place, and zeros beside them) and the whole area it leaves.
-use Prim.Native.Nat.{ℕ, zero, suc, ◌+◌, ◌-◌, ◌^◌, ◌≤◌, ◌<◌}
-use mathlib.Core.Path.{◌≡◌, refl, sym, ap, subst, ◌∙◌}
-use mathlib.Core.Bool.{Bool, true, false}
+use Prim.Native.Nat.{ℕ, ◌-◌, ◌≤◌}
+use mathlib.Core.Path.{◌≡◌, refl, subst, ◌∙◌}
 use mathlib.Core.Logic.{◌⊎◌, inl, inr}
 use mathlib.Core.List.{List, [], ◌∷◌, ◌++◌}
 use native.Mathlib.Omega.{arith}
-use lib.Dec.{ltb, eqb}
+use lib.Dec.{ltb}
 use lib.ListN.{length, get_or, take, drop, replicate}
-use borrow.Author.Tests.{le-ltb}
-use Rattle.sums.specs.Choice.{choose}
 use Rattle.sums.specs.Lists.{some}
 use Rattle.modelfile.specs.File.{read_file}
-use Rattle.modelfile.specs.Part.{tree_part, part_from}
+use Rattle.modelfile.specs.Part.{tree_part}
 use Rattle.modelfile.specs.Network.{windows_of}
 use Rattle.modelfile.specs.declared.Model.{Model}
 use Rattle.modelfile.specs.declared.Verdict.{Verdict}
 use Rattle.modelfile.proofs.PartLaws.{part_refused, part_accepted, part_length, from_refused, from_accepted}
 use Rattle.modelfile.proofs.WalkLaws.{refused_range}
-use Rattle.calls.specs.Answers.{Left, tell, plan_numbers, start_numbers, advance_numbers, no_sheet, part_numbers}
-use Rattle.calls.specs.Asked.{Asked, refused, granted, pick_asked, less_one, run_windows, lowering, on_verdict, ask, on_granted, model_of, windows_for, cells_in, pairs_in, filled_by}
+use Rattle.calls.specs.Answers.{tell, plan_numbers, start_numbers, advance_numbers, no_sheet, part_numbers}
+use Rattle.calls.specs.Asked.{run_windows, lowering, on_verdict, ask, on_granted, model_of, windows_for, cells_in, pairs_in, filled_by}
 use Rattle.calls.specs.Refusals.{first_of, window_zero}
 use Rattle.calls.specs.Plan.{plan}
 use Rattle.calls.specs.Start.{no_room, too_large, no_start, start_in, start}
-use Rattle.calls.specs.Advance.{no_advance, told, advance_in, advance}
-use Rattle.calls.specs.Sheet.{full_value, numerators, busiest, full_sheet, sheet_of, cleared, sheet_in, sheet}
+use Rattle.calls.specs.Advance.{no_advance, advance_in, advance}
+use Rattle.calls.specs.Sheet.{full_value, numerators, busiest, full_sheet, sheet_in, sheet}
 use Rattle.calls.specs.Spending.{Spending, GoesOn}
 use Rattle.calls.specs.declared.PlanAnswer.{PlanAnswer}
-use Rattle.calls.specs.declared.PlanNumbers.{PlanNumbers}
-use Rattle.calls.specs.declared.StartAnswer.{StartAnswer}
-use Rattle.calls.specs.declared.StartNumbers.{StartNumbers}
 use Rattle.calls.specs.declared.AdvanceAnswer.{AdvanceAnswer}
-use Rattle.calls.specs.declared.AdvanceNumbers.{AdvanceNumbers}
 use Rattle.calls.specs.declared.SheetAnswer.{SheetAnswer}
 use Rattle.calls.proofs.ExactLaws.{room_none}
 use Rattle.calls.proofs.GrantedLaws.{planned}
-use Rattle.calls.proofs.SlotLaws.{spent}
 use Rattle.calls.proofs.SpendingLaws.{advance_spending, goes_on}
 use Rattle.calls.proofs.RefusalLaws.{plan_all, start_all, advance_all, first_refused, sheet_all}
 use Rattle.calls.proofs.PastLaws.{start_past, advance_past, sheet_past}

@@ -3,12 +3,12 @@
 -- when that sum is 2^64 or more, for every tree that fits the area." The statement is the record Demand2 and the type of demand-2.
 use Prim.Native.Nat.{ℕ, zero, suc, ◌+◌, ◌-◌, ◌^◌, ◌≤◌, ◌<◌}
 use mathlib.Core.Path.{◌≡◌, refl, sym, ap, subst, ◌∙◌}
-use mathlib.Core.Bool.{Bool, true, false, ◌||◌, ◌&&◌, true≢false}
+use mathlib.Core.Bool.{Bool, true, false, ◌&&◌, true≢false}
 use mathlib.Core.List.{List, [], ◌∷◌, ◌++◌, Permᴰ}
 use native.Mathlib.Omega.{arith}
 use lib.Dec.{ltb, eqb}
 use lib.ListN.{length, get_or}
-use borrow.Author.Tests.{eq-eqb, lt-ltb, le-ltb}
+use borrow.Author.Tests.{eq-eqb, lt-ltb}
 use Rattle.sums.specs.Choice.{choose}
 use Rattle.sums.specs.Lists.{some}
 use Rattle.sums.specs.Sums.{sum_over}
@@ -29,7 +29,7 @@ use Rattle.calls.specs.declared.StartAnswer.{StartAnswer}
 use Rattle.calls.specs.declared.AdvanceAnswer.{AdvanceAnswer}
 use Rattle.calls.proofs.FileLaws.{Fit, granted_fit}
 use Rattle.calls.proofs.GrantedLaws.{planned, begun}
-use Rattle.calls.proofs.SlotLaws.{spent, told_last}
+use Rattle.calls.proofs.SlotLaws.{spent}
 use Rattle.calls.proofs.SpendingLaws.{stopped_some}
 use Rattle.calls.proofs.ExactLaws.{started_area, room_cells, room_none, run_is, leaf_high, stop_high, cells_le, done_all, last_value, value_low}
 

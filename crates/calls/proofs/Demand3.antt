@@ -2,18 +2,17 @@
 -- back untouched. After budgets that add up to b, the area holds exactly what the first b index pairs of the listed order leave (all of them, if there are
 -- fewer); only a pair that would reach 2^64 stops it earlier. The whole number of pairs is known from routes, windows and tree before any load is looked at,
 -- and it is never above that of the plain sequential method." The statement is the record Demand3 and the type of demand-3.
-use Prim.Native.Nat.{ℕ, zero, suc, ◌+◌, ◌*◌, ◌^◌, ◌≤◌, ◌<◌}
+use Prim.Native.Nat.{ℕ, ◌+◌, ◌^◌, ◌≤◌, ◌<◌}
 use mathlib.Core.Path.{◌≡◌, refl, sym, ap, subst, ◌∙◌}
 use mathlib.Core.Bool.{Bool, true, false, ◌&&◌}
-use mathlib.Core.List.{List, []}
+use mathlib.Core.List.{List}
 use native.Mathlib.Omega.{arith}
 use native.Mathlib.Nat.{lt_of_le_of_lt}
 use lib.Dec.{ltb}
-use lib.ListN.{length, get_or}
+use lib.ListN.{length}
 use Rattle.sums.specs.Choice.{choose}
-use Rattle.sums.specs.Lists.{some}
 use Rattle.sums.proofs.ListLaws.{low_member}
-use Rattle.network.specs.Centre.{routes_of, visit}
+use Rattle.network.specs.Centre.{routes_of}
 use Rattle.network.specs.Cells.{all_cells}
 use Rattle.network.specs.Pairs.{listed, all_pairs, plain_pairs}
 use Rattle.network.specs.Run.{Progress}
@@ -23,9 +22,9 @@ use Rattle.modelfile.specs.Network.{centres_of, tree_of}
 use Rattle.modelfile.specs.declared.Model.{Model}
 use Rattle.modelfile.specs.declared.Verdict.{Verdict}
 use Rattle.calls.specs.Answers.{Left}
-use Rattle.calls.specs.Asked.{ask, granted, on_granted, model_of, windows_for, cells_in, pairs_in, filled_by}
+use Rattle.calls.specs.Asked.{ask, granted, on_granted, model_of, windows_for, cells_in, pairs_in}
 use Rattle.calls.specs.Plan.{plan, SameButLoads}
-use Rattle.calls.specs.Start.{no_room, too_large, no_start, start}
+use Rattle.calls.specs.Start.{no_start, start}
 use Rattle.calls.specs.Advance.{no_advance}
 use Rattle.calls.specs.Slots.{sum, last_of, run}
 use Rattle.calls.specs.Spending.{Spending, GoesOn}

@@ -7,14 +7,6 @@ use mathlib.Core.List.{List}
 use denote.Ref.{Bor}
 use Rattle.modelfile.specs.Part.{PartAllows}
 use Rattle.calls.specs.Promises.{PlanAllows, StartAllows, AdvanceAllows, SheetAllows, BoardPlanAllows, BoardStartAllows, BoardAdvanceAllows, BoardPartAllows}
-use Rattle.calls.specs.declared.PlanAnswer.{PlanAnswer}
-use Rattle.calls.specs.declared.PlanNumbers.{PlanNumbers}
-use Rattle.calls.specs.declared.StartAnswer.{StartAnswer}
-use Rattle.calls.specs.declared.StartNumbers.{StartNumbers}
-use Rattle.calls.specs.declared.AdvanceAnswer.{AdvanceAnswer}
-use Rattle.calls.specs.declared.AdvanceNumbers.{AdvanceNumbers}
-use Rattle.calls.specs.declared.SheetAnswer.{SheetAnswer}
-use Rattle.calls.specs.declared.PartNumbers.{PartNumbers}
 
 -- a promise of an answer alone, and one of an answer and an area
 abbrev Alone : {A : Type 0} → (A → Type 0) → Type 0

@@ -1,41 +1,37 @@
 -- One run of a granted model, whatever its budgets: what it answers and leaves (run_is), that a stop or a leaf that is too large means that
 -- the value is 2^64 or more, and that a run which is not stopped ends with the value in the model's last cell.
-use Prim.Native.Nat.{ℕ, zero, suc, ◌+◌, ◌-◌, ◌^◌, ◌≤◌, ◌<◌, min}
+use Prim.Native.Nat.{ℕ, ◌+◌, ◌-◌, ◌^◌, ◌≤◌, ◌<◌}
 use mathlib.Core.Path.{◌≡◌, refl, sym, ap, subst, ◌∙◌}
 use mathlib.Core.Bool.{Bool, true, false, ◌||◌, true≢false}
 use mathlib.Core.Logic.{◌⊎◌, inl, inr}
-use mathlib.Core.List.{List, [], ◌∷◌, ◌++◌, Memᴰ, Permᴰ}
+use mathlib.Core.List.{List, [], ◌++◌, Memᴰ}
 use native.Mathlib.Omega.{arith}
 use native.Mathlib.Nat.{le_refl, le_trans, zero-add}
-use lib.Dec.{ltb, leb, eqb}
-use lib.ListN.{length, get_or, take, drop, length-append, length-take, length-drop, get_or-append}
+use lib.Dec.{ltb}
+use lib.ListN.{length, get_or, take, drop, length-append, length-drop, get_or-append}
 use lib.Seq.{take_all}
-use borrow.Author.Tests.{ltb-true, ltb-false, leb-true, leb-false, le-ltb, le-leb, eq-eqb}
+use borrow.Author.Tests.{ltb-false, leb-true, leb-false, le-ltb}
 use Rattle.sums.specs.Choice.{choose}
-use Rattle.sums.specs.Lists.{from, some}
+use Rattle.sums.specs.Lists.{some}
 use Rattle.sums.proofs.BoolLaws.{some_is, none_of}
 use Rattle.sums.proofs.ListLaws.{get_or_in}
-use Rattle.network.specs.Centre.{Centre, routes_of}
+use Rattle.network.specs.Centre.{routes_of}
 use Rattle.network.specs.States.{value}
-use Rattle.network.specs.Coverage.{under}
-use Rattle.network.specs.Cells.{spread, start_cell, filled, all_cells}
-use Rattle.network.specs.Pairs.{Pair, listed}
-use Rattle.network.specs.Run.{sum_at, leave, no_pair, Progress, spend}
+use Rattle.network.specs.Cells.{start_cell, filled}
+use Rattle.network.specs.Run.{sum_at, leave, no_pair}
 use Rattle.network.proofs.RunLaws.{trace, length-trace, trace_at, trace-take}
 use Rattle.network.proofs.SpendLaws.{Went, went, lead_below}
 use Rattle.network.proofs.AreaLaws.{Laid, length-spread, spread_laid, cells_some}
 use Rattle.network.proofs.WholeLaws.{all_under, start_le, cell_or_sum, whole_value, whole_le}
 use Rattle.modelfile.specs.Network.{centres_of, tree_of}
 use Rattle.modelfile.specs.declared.Model.{Model}
-use Rattle.calls.specs.Answers.{Left}
-use Rattle.calls.specs.Asked.{Asked, refused, granted, ask, on_granted, cells_in, pairs_in, pairs_listed, filled_by}
+use Rattle.calls.specs.Asked.{granted, ask, on_granted, cells_in, pairs_in, pairs_listed, filled_by}
 use Rattle.calls.specs.Start.{no_room, too_large, no_start, start_in, start}
-use Rattle.calls.specs.Advance.{no_advance, told, advance_in, advance}
+use Rattle.calls.specs.Advance.{no_advance}
 use Rattle.calls.specs.Slots as slots
 use Rattle.calls.specs.Slots.{on_started, sum, last_of, advances}
 use Rattle.calls.specs.declared.StartAnswer.{StartAnswer}
-use Rattle.calls.specs.declared.AdvanceAnswer.{AdvanceAnswer}
-use Rattle.calls.proofs.FileLaws.{Fit, granted_fit}
+use Rattle.calls.proofs.FileLaws.{Fit}
 use Rattle.calls.proofs.SlotLaws as slot_laws
 use Rattle.calls.proofs.SlotLaws.{listed_pairs, spent, told_last, room_same}
 

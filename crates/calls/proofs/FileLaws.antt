@@ -2,18 +2,18 @@
 -- at least 1 on it, each chain visits a centre, the tree has each centre once) is what the file guarantees, lowered or not.
 use Prim.Native.Nat.{ℕ, zero, suc, ◌+◌, ◌-◌, ◌*◌, ◌≤◌, ◌<◌}
 use mathlib.Core.Path.{◌≡◌, refl, sym, ap, subst, ◌∙◌}
-use mathlib.Core.Bool.{Bool, true, false, true≢false}
+use mathlib.Core.Bool.{Bool, true, false}
 use mathlib.Core.List.Memᴰ
 use mathlib.Core.List.{List, [], ◌∷◌, map, Memᴰ, Permᴰ}
 use native.Mathlib.Omega.{arith}
 use lib.Dec.{ltb, eqb}
-use lib.ListN.{length, get_or, take, drop, set, length-map, length-drop, length-set}
+use lib.ListN.{length, get_or, take, drop, length-map, length-drop, length-set}
 use lib.Seq.{length-take-le, get_or-take, get_or-drop}
 use Rattle.sums.specs.Lists.{from, by_number, some}
 use Rattle.sums.proofs.BoolLaws.{some_of}
 use Rattle.sums.proofs.ListLaws.{length_from, get_or-from, get_or-map_in, from_in, from_out}
-use Rattle.network.specs.Centre.{Route, Centre, routes_of, visit, queue, fits, Off, On}
-use Rattle.network.specs.Coverage.{Tree, under, visits}
+use Rattle.network.specs.Centre.{Centre, routes_of, visit, queue, Off, On}
+use Rattle.network.specs.Coverage.{under, visits}
 use Rattle.network.proofs.WeightLaws.{queue_off, queue_on}
 use Rattle.network.proofs.NodeLaws.{AllWide}
 use Rattle.network.proofs.CoverLaws.{AllOn}
@@ -24,7 +24,7 @@ use Rattle.modelfile.specs.declared.Model.{Model}
 use Rattle.modelfile.specs.declared.Verdict.{Verdict}
 use Rattle.modelfile.proofs.Guaranteed.{Guaranteed}
 use Rattle.modelfile.proofs.AcceptedLaws.{accepted}
-use Rattle.calls.specs.Asked.{Asked, refused, granted, pick_asked, less_one, lowering, on_verdict, ask}
+use Rattle.calls.specs.Asked.{refused, granted, pick_asked, less_one, lowering, on_verdict, ask}
 
 -- what the laws of the network ask of a model and the windows of a run
 pub record Fit (m : Model) (windows : List ℕ) : Type 0 where

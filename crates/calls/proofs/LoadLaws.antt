@@ -2,10 +2,10 @@
 use Prim.Native.Nat.{ℕ, zero, suc, ◌+◌, ◌*◌, ◌≤◌, ◌<◌}
 use mathlib.Core.Path.{◌≡◌, refl, sym, ap, ◌∙◌}
 use mathlib.Core.Bool.{Bool, true, false}
-use mathlib.Core.List.{List, [], ◌∷◌, map, map-map, Memᴰ}
+use mathlib.Core.List.{List, [], map, map-map}
 use native.Mathlib.Omega.{arith}
 use lib.Dec.{ltb, eqb}
-use lib.ListN.{length, get_or, take, length-map}
+use lib.ListN.{get_or, take, length-map}
 use lib.Seq.{ext_get_or}
 use Rattle.sums.specs.Lists.{from}
 use Rattle.sums.proofs.ListLaws.{map_cong, get_or-map_in, from_out}

@@ -1,8 +1,8 @@
 -- "Cells past the model's are never written": whatever a call is asked and answers, a cell past those of its run is as it was.
-use Prim.Native.Nat.{ℕ, zero, suc, ◌+◌, ◌-◌, ◌^◌, ◌≤◌, ◌<◌}
-use mathlib.Core.Path.{◌≡◌, refl, sym, ap, subst, ◌∙◌}
+use Prim.Native.Nat.{ℕ, ◌+◌, ◌-◌, ◌^◌, ◌≤◌}
+use mathlib.Core.Path.{◌≡◌, refl, sym, ap, ◌∙◌}
 use mathlib.Core.Bool.{Bool, true, false}
-use mathlib.Core.List.{List, [], ◌∷◌, ◌++◌}
+use mathlib.Core.List.{List, ◌++◌}
 use native.Mathlib.Omega.{arith}
 use lib.Dec.{ltb}
 use lib.ListN.{length, get_or, take, drop, replicate, length-replicate}
@@ -11,10 +11,9 @@ use Rattle.sums.specs.Choice.{choose}
 use Rattle.sums.specs.Lists.{some}
 use Rattle.sums.proofs.ListLaws.{take_member, drop_member}
 use Rattle.network.specs.Centre.{routes_of}
-use Rattle.network.specs.Run.{spend}
 use Rattle.network.proofs.CountLaws.{listed_result}
 use Rattle.network.proofs.SpendLaws.{spend_past}
-use Rattle.modelfile.specs.Network.{windows_of, centres_of, tree_of}
+use Rattle.modelfile.specs.Network.{centres_of, tree_of}
 use Rattle.modelfile.specs.declared.Model.{Model}
 use Rattle.calls.specs.Answers.{Left, no_sheet}
 use Rattle.calls.specs.Asked.{Asked, refused, granted, ask, on_granted, model_of, windows_for, cells_in, pairs_in, pairs_listed, filled_by}
@@ -22,7 +21,6 @@ use Rattle.calls.specs.Start.{no_room, too_large, no_start, start_in, start}
 use Rattle.calls.specs.Advance.{no_advance, told, advance_in, advance}
 use Rattle.calls.specs.Sheet.{sheet_of, cleared, sheet_in, sheet}
 use Rattle.calls.specs.declared.StartAnswer.{StartAnswer}
-use Rattle.calls.specs.declared.AdvanceAnswer.{AdvanceAnswer}
 use Rattle.calls.specs.declared.SheetAnswer.{SheetAnswer}
 use Rattle.calls.proofs.GrantedLaws.{granted_is}
 use Rattle.calls.proofs.SlotLaws.{spent}

@@ -1,11 +1,11 @@
 -- The order of the tests: each call of an accepted file answers by the first test that holds. Read off the definitions, by cases on the tests.
-use Prim.Native.Nat.{ℕ, zero, suc, ◌+◌, ◌-◌, ◌^◌, ◌≤◌, ◌<◌}
-use mathlib.Core.Path.{◌≡◌, refl, sym, ap, subst, ◌∙◌}
+use Prim.Native.Nat.{ℕ, zero, suc, ◌≤◌}
+use mathlib.Core.Path.{◌≡◌, refl, sym, ap, ◌∙◌}
 use mathlib.Core.Bool.{Bool, true, false}
 use mathlib.Core.List.{List, [], ◌∷◌, ◌++◌}
 use native.Mathlib.Omega.{arith}
 use lib.Dec.{ltb, eqb}
-use lib.ListN.{length, get_or, take, drop, replicate}
+use lib.ListN.{get_or, drop, replicate}
 use borrow.Author.Tests.{le-ltb}
 use Rattle.sums.specs.Choice.{choose}
 use Rattle.sums.specs.Lists.{some}
@@ -14,18 +14,15 @@ use Rattle.modelfile.specs.Network.{windows_of}
 use Rattle.modelfile.specs.declared.Model.{Model}
 use Rattle.modelfile.specs.declared.Verdict.{Verdict}
 use Rattle.calls.specs.Answers.{Left, tell, plan_numbers, start_numbers, advance_numbers, no_sheet}
-use Rattle.calls.specs.Asked.{Asked, refused, granted, pick_asked, less_one, run_windows, lowering, on_verdict, ask, on_granted, model_of, windows_for, cells_in, pairs_in, filled_by}
+use Rattle.calls.specs.Asked.{Asked, refused, granted, pick_asked, less_one, run_windows, lowering, on_verdict, ask, on_granted, model_of, cells_in, pairs_in, filled_by}
 use Rattle.calls.specs.Refusals.{first_of, window_zero}
 use Rattle.calls.specs.Plan.{plan}
 use Rattle.calls.specs.Start.{no_room, too_large, no_start, start_in, start}
 use Rattle.calls.specs.Advance.{no_advance, told, advance_in, advance}
-use Rattle.calls.specs.Sheet.{full_value, numerators, busiest, full_sheet, sheet_of, cleared, sheet_in, sheet}
+use Rattle.calls.specs.Sheet.{full_value, numerators, full_sheet, sheet_of, cleared, sheet_in, sheet}
 use Rattle.calls.specs.declared.PlanAnswer.{PlanAnswer}
-use Rattle.calls.specs.declared.PlanNumbers.{PlanNumbers}
 use Rattle.calls.specs.declared.StartAnswer.{StartAnswer}
-use Rattle.calls.specs.declared.StartNumbers.{StartNumbers}
 use Rattle.calls.specs.declared.AdvanceAnswer.{AdvanceAnswer}
-use Rattle.calls.specs.declared.AdvanceNumbers.{AdvanceNumbers}
 use Rattle.calls.specs.declared.SheetAnswer.{SheetAnswer}
 use Rattle.calls.proofs.SlotLaws.{spent}
 

@@ -1,7 +1,7 @@
 -- Refused files, one table: for each refusal number at least one file, computed from its bytes, with its place, in every call that gives it. For 1 to 9 a
 -- line computes what the reading says, and demand-1 carries it to every call, number and area. Document 01's own are among them: the empty file, one byte
 -- more, the second leaf naming centre 1, the last join left out, B in an area of 10 cells, and both loads 65535.
-use Prim.Native.Nat.{ℕ, zero, suc, ◌+◌, ◌*◌, ◌-◌, ◌^◌}
+use Prim.Native.Nat.{ℕ}
 use mathlib.Core.Path.{◌≡◌, refl}
 use mathlib.Core.List.{List, [], ◌∷◌, ◌++◌, flat_map, zip_with}
 use lib.ListN.{take, replicate, set}
@@ -19,7 +19,6 @@ use Rattle.modelfile.specs.Model.{empty_model, with_size, with_window, with_load
 use Rattle.modelfile.specs.Records.{chain_without_centre, centre_missing, read_size, read_window, read_load, read_leaf, read_join, read_end, body_length, due, read_body, read_record}
 use Rattle.modelfile.specs.File.{read_from, read_file}
 use Rattle.modelfile.specs.Network.{windows_of, loads_of, centres_of, joined, subtrees, tree_of}
-use Rattle.modelfile.specs.declared.Reading.{Reading}
 use Rattle.modelfile.specs.declared.Verdict.{Verdict}
 use Rattle.calls.specs.Answers.{Left, tell, plan_numbers, start_numbers, advance_numbers, no_sheet}
 use Rattle.calls.specs.Asked.{lowering, ask}

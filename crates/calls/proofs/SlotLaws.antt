@@ -1,31 +1,30 @@
 -- Budgets add up: advances with any budgets, zeros too, leave what one spending of their sum leaves, from any number done and any area, also
 -- past a pair that stops: that pair stops every later budget too, and a budget of 0 is not stopped. One induction over the budgets.
-use Prim.Native.Nat.{ℕ, zero, suc, ◌+◌, ◌-◌, ◌^◌, ◌≤◌, ◌<◌, min}
-use mathlib.Core.Path.{◌≡◌, refl, sym, ap, subst, ◌∙◌}
-use mathlib.Core.Bool.{Bool, true, false, ◌||◌, ◌&&◌, true≢false}
-use mathlib.Core.List.{List, [], ◌∷◌, ◌++◌}
+use Prim.Native.Nat.{ℕ, zero, suc, ◌+◌, ◌^◌, ◌≤◌}
+use mathlib.Core.Path.{◌≡◌, refl, sym, ap, ◌∙◌}
+use mathlib.Core.Bool.{Bool, true, false, ◌||◌, ◌&&◌}
+use mathlib.Core.List.{List, [], ◌∷◌}
 use native.Mathlib.Omega.{arith}
 use native.Mathlib.Nat.{add-zero}
-use lib.Dec.{ltb, eqb}
-use lib.ListN.{length, get_or, take, drop, length-take, length-drop}
-use lib.Seq.{take-add, take-take, get_or-take, get_or-drop}
-use borrow.Author.Tests.{ltb-true, ltb-false, lt-ltb, le-ltb, ne_eqb}
+use lib.Dec.{ltb}
+use lib.ListN.{length, take, drop, length-take, length-drop}
+use lib.Seq.{take-add}
+use borrow.Author.Tests.{lt-ltb, le-ltb}
 use Rattle.sums.specs.Choice.{choose}
 use Rattle.sums.specs.Sums.{sum_over}
 use Rattle.network.specs.Centre.{routes_of}
 use Rattle.network.specs.Pairs.{Pair}
-use Rattle.network.specs.Run.{sum_at, leave, no_pair, Progress, spend}
+use Rattle.network.specs.Run.{Progress, spend}
 use Rattle.network.proofs.CountLaws.{length-listed}
-use Rattle.network.proofs.SpendLaws.{spend-append, spend_done, spend-length, spend_again, portion_next, Went, went, trace_is, lead_at}
+use Rattle.network.proofs.SpendLaws.{spend-append, spend_done, spend-length, spend_again, portion_next, went}
 use Rattle.network.proofs.WholeLaws.{all_under}
 use Rattle.modelfile.specs.Network.{centres_of, tree_of}
 use Rattle.modelfile.specs.declared.Model.{Model}
-use Rattle.calls.specs.Answers.{Left, advance_numbers}
-use Rattle.calls.specs.Asked.{Asked, refused, granted, ask, on_granted, cells_in, pairs_in, pairs_listed}
+use Rattle.calls.specs.Answers.{Left}
+use Rattle.calls.specs.Asked.{granted, ask, on_granted, cells_in, pairs_in, pairs_listed}
 use Rattle.calls.specs.Start.{no_room}
 use Rattle.calls.specs.Advance.{no_advance, value_at, told, advance_in, advance}
 use Rattle.calls.specs.Slots.{on_done, sum, last_of, advances}
-use Rattle.calls.specs.Spending.{Spending, GoesOn}
 use Rattle.calls.specs.declared.AdvanceAnswer.{AdvanceAnswer}
 use Rattle.calls.proofs.FileLaws.{Fit, granted_fit}
 

@@ -1,6 +1,6 @@
 -- Document 01, "Numbers on each side": the starred lines, one table with a named part for each, computed from the bytes of each file
 -- through the definitions of the calls. Each part holds by computing both sides.
-use Prim.Native.Nat.{ℕ, zero, suc, ◌+◌, ◌*◌, ◌-◌, ◌^◌}
+use Prim.Native.Nat.{ℕ, ◌^◌}
 use mathlib.Core.Path.{◌≡◌, refl}
 use mathlib.Core.List.{List, [], ◌∷◌, ◌++◌, flat_map, zip_with}
 use lib.ListN.{replicate}

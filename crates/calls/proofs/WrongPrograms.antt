@@ -1,8 +1,8 @@
 -- The five wrong programs of document 01, "What the contracts have to settle", for every call that each could be written for: each contradicts that call's
 -- promise (specs/Promises) on a concrete input, B or another starred file. What the calls answer there is computed (Starred).
-use Prim.Native.Nat.{ℕ, zero, suc, ◌+◌, ◌≤◌, ◌<◌}
-use mathlib.Core.Path.{◌≡◌, refl, sym, ap, ◌∙◌}
-use mathlib.Core.List.{List, [], ◌∷◌}
+use Prim.Native.Nat.{ℕ, ◌≤◌}
+use mathlib.Core.Path.{◌≡◌, ap, ◌∙◌}
+use mathlib.Core.List.{List}
 use native.Mathlib.Omega.{arith}
 use lib.ListN.{get_or, replicate}
 use Rattle.calls.specs.Answers.{plan_numbers, start_numbers, advance_numbers}

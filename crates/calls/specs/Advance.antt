@@ -1,6 +1,6 @@
 -- "Advance also takes the pairs done and a budget. It returns the new number done and, when that equals the total, the value, which is
 -- the model's last cell; otherwise the value returned is 0. It adds pairs to whatever the area holds". It gives 1 to 14.
-use Rattle.std.specs.Prelude.{ℕ, ◌-◌, ◌^◌, Bool, List, ltb, eqb, get_or, take, drop}
+use Rattle.std.specs.Prelude.{ℕ, ◌-◌, ◌^◌, List, ltb, eqb, get_or, take, drop}
 use Rattle.sums.specs.Choice.{choose}
 use Rattle.network.specs.Run.{Progress, spend}
 use Rattle.modelfile.specs.declared.Model.{Model}

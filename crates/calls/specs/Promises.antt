@@ -1,7 +1,7 @@
 -- What each public call promises of its answer r and, where an area is lent, of what that holds at exit. The contracts in the source cite
 -- these, and so do the theorems about the contracts (Determined, WrongPrograms). The tree part's promise stands in modelfile/specs/Part.
 use Rattle.std.specs.Prelude.{ℕ, ◌≡◌, List}
-use Rattle.calls.specs.Answers.{Left, plan_numbers, start_numbers, advance_numbers, part_numbers}
+use Rattle.calls.specs.Answers.{plan_numbers, start_numbers, advance_numbers, part_numbers}
 use Rattle.calls.specs.Plan.{plan}
 use Rattle.calls.specs.Start.{start}
 use Rattle.calls.specs.Advance.{advance}

@@ -1,6 +1,6 @@
 -- "The sheet runs the full model, then each chain lowered in turn. It returns G(N), the full model's pairs and cells, the number of
 -- chains, a numerator for each chain (0 past that number) and the busiest centre." It gives 1 to 9, 12, 14 and 15.
-use Rattle.std.specs.Prelude.{ℕ, zero, suc, ◌+◌, max, Bool, true, false, List, [], ◌∷◌, ◌++◌, map, eqb, length, drop, replicate}
+use Rattle.std.specs.Prelude.{ℕ, suc, max, List, [], ◌∷◌, ◌++◌, map, eqb, drop, replicate}
 use Rattle.sums.specs.Choice.{choose}
 use Rattle.sums.specs.Lists.{from, some}
 use Rattle.sums.specs.Sums.{sum_over}

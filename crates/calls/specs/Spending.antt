@@ -1,8 +1,7 @@
 -- What is said of pairs spent on an area, from any number done and on any contents, by one advance or by several: which pairs were done,
 -- what they left, which pair would have reached 2^64, and what the board is told. Demands 1 and 3 say it of the calls.
-use Rattle.std.specs.Prelude.{ℕ, ◌+◌, ◌-◌, ◌^◌, ◌≤◌, ◌<◌, min, ◌≡◌, Bool, ◌&&◌, List, ltb, eqb, get_or, take, drop}
+use Rattle.std.specs.Prelude.{ℕ, ◌+◌, ◌-◌, ◌^◌, ◌≤◌, ◌<◌, min, ◌≡◌, ◌&&◌, List, ltb, eqb, get_or, take, drop}
 use Rattle.sums.specs.Choice.{choose}
-use Rattle.network.specs.Pairs.{Pair}
 use Rattle.network.specs.Run.{sum_at, leave, no_pair}
 use Rattle.modelfile.specs.declared.Model.{Model}
 use Rattle.calls.specs.Answers.{Left, advance_numbers}

@@ -1,6 +1,6 @@
 -- The table of a prepared run, node by node: each node's cells as the code finds them are its array in what a start writes, and they begin
 -- where those of the nodes before it end.
-use Prim.Native.Nat.{ℕ, zero, suc, ◌+◌, ◌-◌, ◌≤◌, ◌<◌}
+use Prim.Native.Nat.{ℕ, zero, suc, ◌+◌, ◌≤◌, ◌<◌}
 use mathlib.Core.Path.{◌≡◌, refl, sym, ap, ◌∙◌}
 use mathlib.Core.List.{List, [], map, flat_map, Memᴰ}
 use native.Mathlib.Omega.{arith}
@@ -10,7 +10,7 @@ use lib.Seq.{take-take, take_all}
 use Rattle.sums.proofs.ListLaws.{flat_cong, flat_map-map, get_or_in, take-map, take_member, map-zero}
 use Rattle.network.specs.Centre.{Route}
 use Rattle.network.specs.Coverage.{Tree, leaf, join, under}
-use Rattle.network.specs.Cells.{indices, cells, spans_at, base, centre_by, start_cell, filled}
+use Rattle.network.specs.Cells.{indices, cells, spans_at, centre_by, start_cell, filled}
 use Rattle.network.specs.Weight.{weight}
 use Rattle.network.proofs.CoverageLaws.{Parted}
 use Rattle.network.proofs.CellLaws.{length-indices}

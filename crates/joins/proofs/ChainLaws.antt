@@ -1,6 +1,6 @@
 -- A join's chains by the four ways in which they loop, the flat lists of loops and rows that they make, and the pairs that those list: over
 -- the result's indices, then over the rows. By induction over the chains, with the rows of the chains before.
-use Prim.Native.Nat.{ℕ, suc, ◌+◌, ◌-◌, ◌*◌, ◌≤◌}
+use Prim.Native.Nat.{ℕ, suc, ◌+◌, ◌*◌, ◌≤◌}
 use mathlib.Core.Path.{◌≡◌, refl, sym, ap, ◌∙◌, fun_ext}
 use mathlib.Core.List.{List, [], ◌∷◌, ◌++◌, map, flat_map, append_assoc, append-nil}
 use native.Mathlib.Omega.{arith}

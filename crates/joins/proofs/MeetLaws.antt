@@ -14,7 +14,7 @@ use Rattle.network.specs.Pairs.{chain_pairs, index_pairs}
 use Rattle.network.proofs.CoverageLaws.{Meet, Meets}
 use Rattle.cellsums.specs.Places.{places}
 use Rattle.joins.proofs.TurnLaws.{map_flat}
-use Rattle.joins.proofs.ChainLaws.{Chain, both, ends, one, still, span_of, own_stride, rows, rows_at, left_at, right_at, flat_map-map}
+use Rattle.joins.proofs.ChainLaws.{Chain, both, ends, one, still, span_of, own_stride, rows_at, left_at, right_at, flat_map-map}
 
 -- by the cells of the later chains in the left child, in the right one and at the join
 unfoldable pub chain : {l r j : Coverage} → Meet l r j → ℕ → ℕ → ℕ → ℕ → Chain

@@ -1,5 +1,5 @@
 -- The model as read: empty at first, and with one record more.
-use Rattle.std.specs.Prelude.{ℕ, ◌+◌, ◌-◌, ◌*◌, Bool, true, false, List, eqb, set, replicate}
+use Rattle.std.specs.Prelude.{ℕ, ◌+◌, ◌-◌, ◌*◌, Bool, true, false, eqb, set, replicate}
 use Rattle.modelfile.specs.Ends.{last_chain}
 use Rattle.modelfile.specs.declared.Model.{Model}
 

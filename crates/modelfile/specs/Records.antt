@@ -2,7 +2,7 @@
 -- place of that byte, and `m` what the records before have given. "Within a record: kind, completeness, fields from left to right,
 -- then 4 to 8": the first test that holds decides.
 use Rattle.std.specs.Prelude.{ℕ, ◌+◌, ◌-◌, ◌*◌, Bool, true, false, not, ◌&&◌, ◌||◌, List, [], ◌∷◌, ltb, leb, eqb, length, get_or}
-use Rattle.sums.specs.Lists.{from, some, all}
+use Rattle.sums.specs.Lists.{from, some}
 use Rattle.modelfile.specs.Ends.{last_centre, last_chain, largest_window, largest_load, outside}
 use Rattle.modelfile.specs.Model.{with_size, with_window, slot, with_load, with_leaf, with_join}
 use Rattle.modelfile.specs.declared.Model.{Model}

@@ -1,9 +1,8 @@
 -- Areas laid out over a tree: each node's cells hold a function of the node and the index (Laid). A spread area is laid out so; what is laid
 -- out stays so where no cell of the subtree changes; and a cell's number lies within its subtree.
-use Prim.Native.Nat.{ℕ, zero, suc, ◌+◌, ◌*◌, ◌≤◌, ◌<◌}
-use mathlib.Core.Path.{◌≡◌, refl, sym, ap, subst, ◌∙◌}
+use Prim.Native.Nat.{ℕ, suc, ◌+◌, ◌≤◌, ◌<◌}
+use mathlib.Core.Path.{◌≡◌, refl, sym, subst, ◌∙◌}
 use mathlib.Core.List.{List, [], ◌∷◌, ◌++◌, map, zip_with, append_assoc}
-use mathlib.Core.Logic.{◌⊎◌, inl, inr}
 use native.Mathlib.Omega.{arith}
 use native.Mathlib.Nat.{le_refl, mul-le-mul}
 use lib.ListN.{length, get_or, length-append, length-map, get_or-append}

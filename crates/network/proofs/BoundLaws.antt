@@ -1,6 +1,6 @@
 -- No cell that is needed exceeds the value: what a node's index leaves over can be placed on the centres outside the node, with weight
 -- at least 1. So "overflow is a matter of the tree" is a wrong reading.
-use Prim.Native.Nat.{ℕ, zero, suc, ◌+◌, ◌-◌, ◌≤◌, ◌<◌}
+use Prim.Native.Nat.{ℕ, ◌+◌, ◌-◌, ◌≤◌}
 use mathlib.Core.Path.{◌≡◌, refl, sym, ap, subst, ◌∙◌}
 use mathlib.Core.Bool.{Bool, true, false, not, ◌||◌, true≢false}
 use mathlib.Core.List.Permᴰ

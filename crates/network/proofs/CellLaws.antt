@@ -1,6 +1,6 @@
 -- A node's cells: its indices are the vectors inside its spans, each once; the place of an index is where it lies, so places are
 -- below the number of cells and no two indices share one. By induction over the chains.
-use Prim.Native.Nat.{ℕ, zero, suc, ◌+◌, ◌*◌, ◌≤◌, ◌<◌}
+use Prim.Native.Nat.{ℕ, suc, ◌+◌, ◌*◌, ◌≤◌, ◌<◌}
 use mathlib.Core.Path.{◌≡◌, refl, sym, ap, subst, ◌∙◌}
 use mathlib.Core.List.Memᴰ
 use mathlib.Core.List.{List, [], ◌∷◌, map, flat_map, tail, head_d, Memᴰ, Nodup, Nodup-nil}

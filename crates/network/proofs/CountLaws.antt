@@ -1,21 +1,20 @@
 -- How many pairs: the listed order is as long as the product formula says, never longer than the plain method's, and neither reaches 2^63;
 -- and every pair's result is one of the tree's cells.
-use Prim.Native.Nat.{ℕ, zero, suc, ◌+◌, ◌*◌, ◌-◌, ◌^◌, ◌/◌, ◌≤◌, ◌<◌}
-use mathlib.Core.Path.{◌≡◌, refl, sym, ap, subst, ◌∙◌}
+use Prim.Native.Nat.{ℕ, zero, suc, ◌+◌, ◌*◌, ◌-◌, ◌^◌, ◌≤◌, ◌<◌}
+use mathlib.Core.Path.{◌≡◌, refl, ap, subst, ◌∙◌}
 use mathlib.Core.Logic.{◌⊎◌, inl, inr}
 use mathlib.Core.List.Memᴰ
-use mathlib.Core.List.{List, [], ◌∷◌, ◌++◌, map, flat_map, Memᴰ, Permᴰ}
+use mathlib.Core.List.{List, [], ◌∷◌, ◌++◌, map, Memᴰ, Permᴰ}
 use native.Mathlib.Omega.{arith}
 use native.Mathlib.Nat.{le_refl, le_trans, mul-le-mul, pow-suc, pow-le-pow_right}
-use lib.ListN.{length, get_or, length-append, length-map}
+use lib.ListN.{length, length-append, length-map}
 use Rattle.sums.specs.Lists.{from}
-use Rattle.sums.specs.Sums.{sum_over}
 use Rattle.sums.proofs.ListLaws.{length_from, flat_out}
 use Rattle.sums.proofs.PermLaws.{perm_length}
 use Rattle.sums.proofs.SumLaws.{sum_over_ext, length_flat_sum}
 use Rattle.network.specs.Centre.{Route}
 use Rattle.network.specs.Coverage.{Tree, leaf, join, under, coverages}
-use Rattle.network.specs.Cells.{indices, spans_at, all_cells, cell_of}
+use Rattle.network.specs.Cells.{indices, spans_at, all_cells}
 use Rattle.network.specs.Pairs.{Pair, index_pairs, triangle, triangles, factors, pair_at, own_pairs, listed, all_pairs, plain_pairs}
 use Rattle.network.proofs.CoverageLaws.{Parted, parted_left, parted_right, meets}
 use Rattle.network.proofs.PairLaws.{pairs_count, factors-le}

@@ -1,6 +1,6 @@
 -- Which chains a list of centres touches. Where a vector has messages of another chain the value is 0 (G-off); where it has not, the value
 -- is at least 1 (G-on), so what lies under a node never exceeds the value of all centres (bound).
-use Prim.Native.Nat.{ℕ, zero, suc, ◌+◌, ◌*◌, ◌≤◌, ◌<◌}
+use Prim.Native.Nat.{ℕ, zero, suc, ◌*◌, ◌≤◌}
 use mathlib.Core.Path.{◌≡◌, refl, sym, ap, subst, ◌∙◌}
 use mathlib.Core.Bool.{Bool, true, false, ◌||◌, true≢false}
 use mathlib.Core.List.{List, [], ◌∷◌, ◌++◌, Memᴰ, Permᴰ}
@@ -8,8 +8,8 @@ use native.Mathlib.Omega.{arith}
 use native.Mathlib.Nat.{add-zero, zero-add, le_refl, le_trans, one-le-mul, mul-zero, zero-mul, mul-one, mul-le-mul}
 use lib.ListN.{length, replicate, length-replicate}
 use Rattle.sums.proofs.SplitLaws.{Split, split_length}
-use Rattle.sums.proofs.AntiLaws.{anti_v, anti_v_cong, anti_v-zero, anti_v_ge}
-use Rattle.network.specs.Centre.{Route, Centre, fits, Off, On}
+use Rattle.sums.proofs.AntiLaws.{anti_v_cong, anti_v-zero, anti_v_ge}
+use Rattle.network.specs.Centre.{Centre, fits, Off, On}
 use Rattle.network.proofs.ValueLaws.{G, G-append, G_perm, conv, unit}
 
 -- the test `fits` as a relation: a number where the chain visits, 0 where it does not

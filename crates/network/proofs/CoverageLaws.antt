@@ -1,7 +1,7 @@
 -- Coverage from what visits inside and outside: with the centres parted into a set and the rest, a chain is absent if no centre of the
 -- set is one of its, finished if one is and none of the rest, partial if both have one. So counting decides it, and the coverage at
 -- a join follows from its children's.
-use Prim.Native.Nat.{ℕ, zero, suc, ◌+◌, ◌≤◌, ◌<◌}
+use Prim.Native.Nat.{ℕ, zero, suc, ◌+◌}
 use mathlib.Core.Path.{◌≡◌, refl, sym, ap, subst, ◌∙◌}
 use mathlib.Core.Bool.{Bool, true, false, not, ◌||◌, true≢false}
 use mathlib.Core.Logic.{◌⊎◌, inl, inr}
@@ -13,11 +13,11 @@ use lib.Dec.{eqb}
 use lib.ListN.{length, length-append}
 use borrow.Author.Tests.{eq-eqb, ne_eqb}
 use Rattle.sums.specs.Lists.{from, some, all, among, those}
-use Rattle.sums.proofs.BoolLaws.{some_is, some_of, none_of, not_some, all_of, not_all, those_in, those_out, among_in, among_is, some-append, those-append, those_none, those-some}
+use Rattle.sums.proofs.BoolLaws.{some_is, some_of, none_of, all_of, not_all, those_in, those_out, among_in, among_is, some-append, those-append, those_none, those-some}
 use Rattle.sums.proofs.ListLaws.{from_nodup, nodup_apart}
 use Rattle.sums.proofs.PermLaws.{perm_in, perm_nodup, perm_turn, perm_those}
 use Rattle.network.specs.Centre.{Route}
-use Rattle.network.specs.Coverage.{Coverage, finished, partial, absent, Tree, leaf, join, under, visits, chain_centres, coverage_by, coverage, coverages}
+use Rattle.network.specs.Coverage.{Coverage, finished, partial, absent, Tree, join, under, visits, chain_centres, coverage_by, coverage, coverages}
 
 -- a test that is not true is false
 bool_false : (b : Bool) → (b ≡ true → ⊥) → b ≡ false

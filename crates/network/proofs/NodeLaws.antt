@@ -1,28 +1,25 @@
 -- The centres under a node, and what coverage says of them: which chains they touch (cover-under), and that a join's value is the sum over
 -- its pairs (join-cell).
-use Prim.Native.Nat.{ℕ, zero, suc, ◌+◌, ◌*◌, ◌-◌, ◌≤◌, ◌<◌}
+use Prim.Native.Nat.{ℕ, zero, suc, ◌+◌, ◌*◌, ◌≤◌, ◌<◌}
 use mathlib.Core.Path.{◌≡◌, refl, sym, ap, subst, ◌∙◌}
-use mathlib.Core.Bool.{Bool, true, false, not, ◌||◌, true≢false}
-use mathlib.Core.Logic.{◌⊎◌, inl, inr}
+use mathlib.Core.Bool.{Bool, true, false, not, ◌||◌}
 use mathlib.Core.List.Memᴰ
-use mathlib.Core.List.{List, [], ◌∷◌, ◌++◌, map, map-map, zip_with, Memᴰ, Permᴰ}
+use mathlib.Core.List.{List, [], ◌∷◌, ◌++◌, map, map-map, zip_with, Memᴰ}
 use native.Mathlib.Omega.{arith}
-use native.Mathlib.Nat.{add-zero, zero-add, mul-zero, zero-mul, le_refl}
-use lib.ListN.{length, get_or, replicate, length-map, length-replicate, get_or-replicate, get_or-map}
+use native.Mathlib.Nat.{mul-zero, zero-mul}
+use lib.ListN.{length, replicate, length-map, get_or-map}
 use lib.Seq.{ext_get_or}
 use Rattle.sums.specs.Lists.{from, by_number, some}
 use Rattle.sums.specs.Sums.{sum_over}
 use Rattle.sums.proofs.ListLaws.{map-append, map_cong, get_or_in, get_or-map_in, length_from, get_or-from, from_out}
-use Rattle.sums.proofs.PermLaws.{perm_in, perm_map}
-use Rattle.sums.proofs.SplitLaws.{Split}
-use Rattle.network.specs.Centre.{Route, Centre, routes_of, fits, Off, On}
-use Rattle.network.specs.Coverage.{Coverage, finished, partial, absent, Tree, leaf, join, under, visits, coverage_by, coverage, coverages}
-use Rattle.network.specs.Cells.{Span, only, upto, span, spans_at, centre_by}
+use Rattle.sums.proofs.PermLaws.{perm_in}
+use Rattle.network.specs.Centre.{Route, Centre, routes_of, fits, Off}
+use Rattle.network.specs.Coverage.{Coverage, Tree, join, under, visits, coverage_by, coverage, coverages}
+use Rattle.network.specs.Cells.{span, spans_at, centre_by}
 use Rattle.network.specs.Pairs.{index_pairs}
 use Rattle.network.proofs.ValueLaws.{G, G-append, conv}
 use Rattle.network.proofs.CoverageLaws.{Parted, parted_left, parted_right, coverage_parts, meets}
-use Rattle.network.proofs.CellLaws.{In, Inside}
-use Rattle.network.proofs.CoverLaws.{Fits, merge, cover, cover-length, Wide, G_off, AllOn, bound}
+use Rattle.network.proofs.CoverLaws.{merge, cover, Wide, G_off}
 use Rattle.network.proofs.PairLaws.{present, pairs_sum}
 
 -- ---- lists by number

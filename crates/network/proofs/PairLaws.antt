@@ -1,26 +1,26 @@
 -- A join's pairs, from the coverage of its chains at the children and at the join: each pair's indices are indices of the children; a
 -- sum over all splits of a result index is the sum over its pairs, if what is left out is 0; and the pairs are counted by the product
 -- of the chains' factors, each at most (N+1)(N+2)/2. By cases on how a chain's coverages meet, then over the chains.
-use Prim.Native.Nat.{ℕ, zero, suc, ◌+◌, ◌*◌, ◌/◌, ◌≤◌, ◌<◌}
+use Prim.Native.Nat.{ℕ, zero, suc, ◌+◌, ◌*◌, ◌/◌, ◌≤◌}
 use mathlib.Core.Path.{◌≡◌, refl, sym, ap, subst, ◌∙◌, fun_ext}
 use mathlib.Core.Bool.{Bool, true, false, true≢false}
 use mathlib.Core.List.Memᴰ
-use mathlib.Core.List.{List, [], ◌∷◌, ◌++◌, map, flat_map, zip_with, Memᴰ}
+use mathlib.Core.List.{List, [], ◌∷◌, map, zip_with, Memᴰ}
 use native.Mathlib.Omega.{arith}
 use native.Mathlib.Nat.{zero-mul, mul_comm, le_refl, one-le-mul, mul-le-mul}
 use lib.ListN.{length, length-map}
 use Rattle.sums.specs.Lists.{from}
 use Rattle.sums.specs.Sums.{sum_over, splits, one_more, before}
 use Rattle.sums.proofs.ListLaws.{flat_out, length_flat}
-use Rattle.sums.proofs.SumLaws.{sum_over-map, sum_over_flat, sum_over_ext, sum_over_cong, sum_over-mul}
+use Rattle.sums.proofs.SumLaws.{sum_over-map, sum_over_flat, sum_over_ext, sum_over-mul}
 use Rattle.sums.proofs.SplitLaws.{splits_out, split_length}
 use Rattle.sums.proofs.AntiLaws.{anti, anti_v, anti_first, anti_final, anti_sum, anti_v_cong, anti_v-zero}
 use Rattle.network.specs.Centre.{fits}
 use Rattle.network.specs.Coverage.{Coverage, finished, partial, absent}
-use Rattle.network.specs.Cells.{Span, only, upto, span, index_values, indices}
+use Rattle.network.specs.Cells.{span, index_values, indices}
 use Rattle.network.specs.Pairs.{chain_pairs, index_pairs, triangle, factor, factors, triangles}
 use Rattle.network.proofs.CoverageLaws.{Meet, Meets}
-use Rattle.network.proofs.CellLaws.{In, Inside, indices_out, inside_length}
+use Rattle.network.proofs.CellLaws.{In, Inside}
 
 pub length-splits : (n : ℕ) → length (splits n) ≡ suc n
 unfolding splits

@@ -1,8 +1,7 @@
 -- Document 01, "Readings that look right", and what is right instead, on B: 3 centres, 2 chains, windows 1 and 1, tree 1 2 join 3 join.
 -- Each line is computed, so a definition that follows the wrong reading is refused here.
-use Prim.Native.Nat.{ℕ, zero, suc, ◌+◌, ◌*◌, ◌^◌}
+use Prim.Native.Nat.{ℕ}
 use mathlib.Core.Path.{◌≡◌, refl}
-use mathlib.Core.Bool.{Bool, true, false}
 use mathlib.Core.List.{List, [], ◌∷◌, flat_map, zip_with}
 use lib.ListN.{length}
 use Rattle.sums.specs.Lists.{from, by_number, some, all, when, those, among}

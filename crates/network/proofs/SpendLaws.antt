@@ -1,6 +1,6 @@
 -- Runs under a limit. Spending one list of pairs and then another is spending them in a row, unless a pair stopped the first; a run does
 -- the pairs whose sums lead below the limit, and only a pair that would reach it stops it (went).
-use Prim.Native.Nat.{ℕ, zero, suc, ◌+◌, ◌-◌, ◌≤◌, ◌<◌, min}
+use Prim.Native.Nat.{ℕ, zero, suc, ◌+◌, ◌-◌, ◌≤◌, ◌<◌}
 use mathlib.Core.Path.{◌≡◌, refl, sym, ap, subst, ◌∙◌}
 use mathlib.Core.Bool.{Bool, true, false, true≢false}
 use mathlib.Core.Logic.{◌⊎◌, inl, inr}

@@ -4,14 +4,14 @@ use Prim.Native.Nat.{ℕ, zero, suc, ◌+◌, ◌<◌}
 use mathlib.Core.Path.{◌≡◌, refl, sym, ap, subst, ◌∙◌}
 use mathlib.Core.Bool.{Bool, true, false, ◌&&◌, true≢false}
 use mathlib.Core.List.Memᴰ
-use mathlib.Core.List.{List, [], ◌∷◌, map, flat_map, tail, head_d, Memᴰ, Nodup, Nodup-nil}
+use mathlib.Core.List.{List, [], ◌∷◌, map, tail, head_d, Memᴰ, Nodup, Nodup-nil}
 use native.Mathlib.Omega.{arith}
 use native.Mathlib.Nat.{zero-add}
 use lib.ListN.{length, get_or, length-map}
 use Rattle.sums.specs.Lists.{from, when}
 use Rattle.sums.specs.Sums.{sum_over, vector_splits}
 use Rattle.sums.proofs.ListLaws.{length_from, get_or-from, get_or-map_in, flat_in, flat_out, nodup_more, nodup_map, nodup_flat}
-use Rattle.sums.proofs.SplitLaws.{Split, split_same, split_at, split_length, split_of, vector_splits_in, vector_splits_out, vector_splits_nodup}
+use Rattle.sums.proofs.SplitLaws.{Split, split_same, split_at, split_of, vector_splits_in, vector_splits_out, vector_splits_nodup}
 use Rattle.network.specs.Centre.{Route, fits}
 use Rattle.network.specs.States.{State, empty_states, states, held, on_routes, Placement}
 

@@ -1,27 +1,27 @@
 -- The run over a tree: from what a start writes, the listed pairs turn every node's cells into the values of the centres under it, touch
 -- no cell outside, and form on the way the sums that the values alone give (ideal). By induction over the tree; a join's own pairs are
 -- blocks of pairs, one block a result cell.
-use Prim.Native.Nat.{ℕ, zero, suc, ◌+◌, ◌*◌, ◌≤◌, ◌<◌}
+use Prim.Native.Nat.{ℕ, ◌+◌, ◌*◌, ◌≤◌, ◌<◌}
 use mathlib.Core.Path.{◌≡◌, refl, sym, ap, subst, ◌∙◌}
 use mathlib.Core.List.Memᴰ
-use mathlib.Core.List.{List, [], ◌∷◌, ◌++◌, map, map-map, flat_map, Memᴰ}
+use mathlib.Core.List.{List, [], ◌++◌, map, map-map, flat_map, Memᴰ}
 use mathlib.Core.Logic.{◌⊎◌, inl, inr}
 use native.Mathlib.Omega.{arith}
 use native.Mathlib.Nat.{zero-add}
-use lib.ListN.{length, get_or, length-map}
+use lib.ListN.{length, get_or}
 use Rattle.sums.specs.Sums.{sum_over}
 use Rattle.sums.proofs.ListLaws.{map_cong, flat_cong}
 use Rattle.sums.proofs.SumLaws.{sum_over-map}
 use Rattle.network.specs.Centre.{Route, Centre, routes_of}
 use Rattle.network.specs.Coverage.{Tree, leaf, join, under, coverages}
-use Rattle.network.specs.Cells.{indices, place, spans_at, all_cells, base, cell_of, start_cell, centre_by}
-use Rattle.network.specs.Pairs.{Pair, index_pairs, own_pairs, listed}
+use Rattle.network.specs.Cells.{indices, spans_at, all_cells, base, cell_of, start_cell, centre_by}
+use Rattle.network.specs.Pairs.{index_pairs, own_pairs, listed}
 use Rattle.network.specs.Run.{leave}
 use Rattle.network.proofs.ValueLaws.{G_one}
 use Rattle.network.proofs.CoverageLaws.{Parted, parted_left, parted_right, meets}
 use Rattle.network.proofs.CellLaws.{Inside, indices_out, indices_in, indices_nodup, inside_length, place_same}
 use Rattle.network.proofs.PairLaws.{pairs_inside}
-use Rattle.network.proofs.RunLaws.{leave-append, trace, trace-append, length-leave, block, product, running, blocks, Clear, blocks_same, blocks_run, blocks-trace}
+use Rattle.network.proofs.RunLaws.{leave-append, trace, trace-append, length-leave, product, running, blocks, Clear, blocks_same, blocks_run, blocks-trace}
 use Rattle.network.proofs.NodeLaws.{AllWide, value_under, join_cell, coverages-length, spans_length}
 use Rattle.network.proofs.AreaLaws.{Holds, Laid, laid_own, laid_agree, cell_in, base-join, base_room}
 

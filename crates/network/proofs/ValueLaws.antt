@@ -1,16 +1,16 @@
 -- The value by convolution: G of a list of centres is built centre by centre, splits over an append, does not depend on the order, and
 -- is the sum over all states (value-G). By the laws of sums over splits.
-use Prim.Native.Nat.{ℕ, zero, suc, ◌+◌, ◌*◌, ◌≤◌}
+use Prim.Native.Nat.{ℕ, zero, suc, ◌*◌}
 use mathlib.Core.Path.{◌≡◌, refl, sym, ap, ◌∙◌, fun_ext}
 use mathlib.Core.Bool.{Bool, true, false}
-use mathlib.Core.List.{List, [], ◌∷◌, ◌++◌, map, flat_map, append_assoc, Memᴰ, Permᴰ}
+use mathlib.Core.List.{List, [], ◌∷◌, ◌++◌, map, Memᴰ, Permᴰ}
 use native.Mathlib.Omega.{arith}
 use native.Mathlib.Nat.{one-mul, mul_comm, zero-mul}
 use Rattle.sums.specs.Lists.{when}
 use Rattle.sums.specs.Sums.{sum_over, vector_splits}
 use Rattle.sums.proofs.SumLaws.{sum_over-map, sum_over_flat, sum_over_ext, sum_over-mul}
 use Rattle.sums.proofs.AntiLaws.{anti, anti_v, anti_v_ext, anti_v-mul, anti_v_swap, anti_v_assoc, anti_v-zero, anti_ext, anti-zero, anti_v_sum}
-use Rattle.network.specs.Centre.{Route, Centre, routes_of, fits, Off}
+use Rattle.network.specs.Centre.{Centre, routes_of, fits, Off}
 use Rattle.network.specs.States.{State, empty_states, states, state_weight, value}
 
 -- ---- convolution

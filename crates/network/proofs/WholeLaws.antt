@@ -1,15 +1,14 @@
 -- The whole model: after all listed pairs its last cell is the sum over all states, and neither a start nor a pair on the way makes a cell
 -- larger than that sum. For any tree that has each centre once, and any order of the centres.
-use Prim.Native.Nat.{ℕ, zero, suc, ◌+◌, ◌*◌, ◌-◌, ◌≤◌, ◌<◌, zero-le}
+use Prim.Native.Nat.{ℕ, ◌+◌, ◌*◌, ◌-◌, ◌≤◌, ◌<◌, zero-le}
 use mathlib.Core.Path.{◌≡◌, refl, sym, ap, subst, ◌∙◌}
-use mathlib.Core.Bool.{Bool, true, false, not, true≢false}
+use mathlib.Core.Bool.{true}
 use mathlib.Core.Logic.{◌⊎◌, inl, inr}
 use mathlib.Core.List.Memᴰ
 use mathlib.Core.List.Permᴰ
 use mathlib.Core.List.{List, [], ◌∷◌, ◌++◌, map, flat_map, zip_with, append-nil, Memᴰ, Permᴰ}
 use native.Mathlib.Omega.{arith}
-use native.Mathlib.Nat.{le_refl, le_trans, add_assoc}
-use lib.ListN.{length, get_or, set, length-map, length-append}
+use lib.ListN.{length, get_or, set, length-map}
 use lib.Seq.{get_or-set_same, get_or-set_other, set_out}
 use native.Mathlib.Decide.{ℕ_discrete, dec_lt}
 use Rattle.sums.specs.Lists.{from, some}
@@ -20,18 +19,18 @@ use Rattle.sums.proofs.SumLaws.{sum_over-map}
 use Rattle.sums.proofs.PermLaws.{perm_in, perm_map}
 use Rattle.network.specs.Centre.{Route, Centre, routes_of}
 use Rattle.network.specs.States.{value}
-use Rattle.network.specs.Coverage.{Coverage, finished, partial, absent, Tree, leaf, join, under, visits, coverage_by, coverage, coverages}
-use Rattle.network.specs.Cells.{span, size, cells, stride, strides, along, place, indices, spans_at, all_cells, base, cell_of, spread, start_cell, centre_by, filled}
+use Rattle.network.specs.Coverage.{finished, Tree, leaf, join, under, visits, coverage_by, coverage, coverages}
+use Rattle.network.specs.Cells.{span, size, cells, stride, strides, along, place, indices, spans_at, all_cells, cell_of, spread, start_cell, centre_by}
 use Rattle.network.specs.Pairs.{Pair, index_pairs, listed}
 use Rattle.network.specs.Run.{sum_at, add, leave}
 use Rattle.network.proofs.ValueLaws.{G, G_one, G_perm, value-G}
 use Rattle.network.proofs.CoverageLaws.{Parted, parted_left, parted_right, coverage_parts}
 use Rattle.network.proofs.CellLaws.{In, Inside, inside_length, indices_out}
 use Rattle.network.proofs.CoverLaws.{AllOn}
-use Rattle.network.proofs.RunLaws.{trace, running, length-add}
+use Rattle.network.proofs.RunLaws.{trace, running}
 use Rattle.network.proofs.NodeLaws.{by_number_lem, AllWide, picked_from, join_cell, spans_length}
 use Rattle.network.proofs.BoundLaws.{AllVisited, node_bound}
-use Rattle.network.proofs.AreaLaws.{Laid, laid_own, base_is, cells_some, spread_laid, length-spread}
+use Rattle.network.proofs.AreaLaws.{Laid, laid_own, base_is, cells_some}
 use Rattle.network.proofs.TreeLaws.{node_value, products, ideal, Ran, run_tree}
 
 -- sums on the way are at most the whole

@@ -1,5 +1,5 @@
 -- Document 01, "Coverage, cells and pairs": a node's array, where its cells lie in the work area, and what a start writes.
-use Rattle.std.specs.Prelude.{ℕ, zero, suc, ◌+◌, ◌*◌, length}
+use Rattle.std.specs.Prelude.{ℕ, suc, ◌+◌, ◌*◌, length}
 use mathlib.Core.List.{List, [], ◌∷◌, ◌++◌, map, flat_map, zip_with}
 use Rattle.sums.specs.Lists.{from, by_number}
 use Rattle.network.specs.Centre.{Route, Centre, routes_of}

@@ -1,5 +1,5 @@
 -- Document 01, "Coverage, cells and pairs": the index pairs in the listed order, and how many there are.
-use Rattle.std.specs.Prelude.{ℕ, zero, suc, ◌+◌, ◌*◌, ◌-◌, ◌/◌, length}
+use Rattle.std.specs.Prelude.{ℕ, ◌+◌, ◌*◌, ◌-◌, ◌/◌, length}
 use mathlib.Core.List.{List, [], ◌∷◌, ◌++◌, map, flat_map}
 use Rattle.sums.specs.Sums.{splits, before}
 use Rattle.network.specs.Centre.{Route}

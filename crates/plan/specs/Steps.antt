@@ -1,5 +1,5 @@
 -- What each function of the code answers, by the numbers it is given; the laws in proofs/ lead from here to the table.
-use Rattle.std.specs.Prelude.{ℕ, zero, suc, ◌+◌, ◌-◌, ◌*◌, ◌^◌, ◌≤◌, ◌<◌, ◌≡◌, Bool, List, [], ◌∷◌, map, length, get_or, set, replicate}
+use Rattle.std.specs.Prelude.{ℕ, zero, suc, ◌+◌, ◌-◌, ◌*◌, ◌≤◌, ◌≡◌, Bool, List, [], ◌∷◌, map, length, get_or, set, replicate}
 use Rattle.sums.specs.Lists.{from, those}
 use Rattle.network.specs.Centre.{visit}
 use Rattle.network.specs.Coverage.{Coverage, finished, partial, absent}

@@ -1,5 +1,4 @@
 -- What each function of the code answers, by the definitions of the sheet.
-use Rattle.std.specs.Prelude.{false}
 use Rattle.sums.specs.Choice.{choose}
 use Rattle.sums.specs.Lists.{some}
 use Rattle.modelfile.specs.Network.{windows_of}

@@ -1,6 +1,6 @@
 -- The records with fields before the tree, kinds 1 to 3: what their definitions say at each `return` of the code, in plain values.
 -- Each law rewrites by the tests that led to that `return`.
-use Prim.Native.Nat.{ℕ, ◌+◌, ◌-◌, ◌<◌, ◌≤◌}
+use Prim.Native.Nat.{ℕ, ◌+◌, ◌<◌, ◌≤◌}
 use mathlib.Core.Path.{◌≡◌}
 use mathlib.Core.Bool.{Bool, true, false}
 use mathlib.Core.List.{List}

@@ -5,7 +5,7 @@ use Rattle.network.specs.Coverage.{Tree, leaf, join, under}
 use Rattle.network.specs.Cells.{all_cells}
 use Rattle.network.specs.Pairs.{Pair, own_pairs}
 use Rattle.network.proofs.CoverageLaws.{Parted}
-use Rattle.plan.specs.Table.{totals_of, entry}
+use Rattle.plan.specs.Table.{entry}
 use Rattle.plan.specs.Steps.{Few}
 use Rattle.plan.specs.declared.Chains.{Chains}
 use Rattle.plan.specs.declared.Node.{Node}

@@ -3,10 +3,9 @@
 -- over `splits` and `vector_splits` (anti-sum, antiV-sum), in the form that inductions want.
 use Prim.Native.Nat.{ℕ, zero, suc, ◌+◌, ◌*◌, ◌≤◌}
 use mathlib.Core.Path.{◌≡◌, refl, sym, ap, ◌∙◌}
-use mathlib.Core.List.{List, [], ◌∷◌, map, flat_map}
+use mathlib.Core.List.{List, [], ◌∷◌, map}
 use native.Mathlib.Omega.{arith}
 use native.Mathlib.Nat.{le_refl, le_trans, mul-add}
-use lib.ListN.{length}
 use Rattle.sums.specs.Sums.{sum_over, splits, one_more, before, vector_splits}
 use Rattle.sums.proofs.SplitLaws.{Split}
 use Rattle.sums.proofs.SumLaws.{sum_over-map, sum_over_flat, sum_over_ext}

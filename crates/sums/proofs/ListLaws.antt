@@ -4,10 +4,10 @@ use mathlib.Core.Path.{◌≡◌, refl, sym, ap, subst, ◌∙◌}
 use mathlib.Core.Logic.{◌⊎◌, inl, inr, ∥∥₁_elim}
 use mathlib.Core.HLevel.{⊥_prop}
 use mathlib.Core.List.Memᴰ
-use mathlib.Core.List.{List, [], ◌∷◌, ◌++◌, map, flat_map, append_assoc, Mem, Memᴰ, Nodup, Nodup-nil, Nodup-cons}
+use mathlib.Core.List.{List, [], ◌∷◌, ◌++◌, map, flat_map, append_assoc, Memᴰ, Nodup, Nodup-nil, Nodup-cons}
 use native.Mathlib.Omega.{arith}
 use native.Mathlib.Nat.{zero-mul, add-zero}
-use lib.ListN.{length, get_or, take, drop, replicate, take-append-drop, length-append, length-map, get_or-append}
+use lib.ListN.{length, get_or, take, drop, replicate, take-append-drop, length-append, get_or-append}
 use lib.Seq.{get_or-append-add}
 use Rattle.sums.specs.Lists.{from}
 

@@ -3,7 +3,7 @@ use Prim.Native.Nat.{ℕ, zero, suc, ◌+◌, ◌<◌}
 use mathlib.Core.Path.{◌≡◌, refl, sym, ap, subst, ◌∙◌}
 use mathlib.Core.Logic.{◌⊎◌, inl, inr}
 use mathlib.Core.List.Memᴰ
-use mathlib.Core.List.{List, [], ◌∷◌, map, flat_map, tail, head_d, Memᴰ, Nodup, Nodup-nil}
+use mathlib.Core.List.{List, [], ◌∷◌, map, tail, head_d, Memᴰ, Nodup, Nodup-nil}
 use native.Mathlib.Omega.{arith}
 use lib.ListN.{length, get_or}
 use Rattle.sums.specs.Sums.{splits, one_more, before, vector_splits}

@@ -2,7 +2,7 @@
 -- fits, so that a part that is too large settles the whole.
 use Prim.Native.Nat.{ℕ, zero, suc, ◌+◌, ◌*◌, ◌^◌, ◌≤◌, ◌<◌}
 use mathlib.Core.Path.{◌≡◌, refl, sym, ap, ◌∙◌}
-use mathlib.Core.Bool.{true, false, true≢false}
+use mathlib.Core.Bool.{true, true≢false}
 use mathlib.Core.List.{List, [], ◌∷◌, map}
 use native.Mathlib.Nat.{mul-one, one-le-mul, le_refl, add-suc, one-le-pow}
 use native.Mathlib.Numerals.{add-one}

@@ -2,7 +2,6 @@
 use mathlib.Core.Path.{sym}
 use native.Mathlib.Omega.{arith}
 use Rattle.arith.proofs.CappedLaws.{capped_exact, capped_large}
-use borrow.Author.Rules.{rules}
 use Rattle.arith.proofs.add.Goals as goal
 
 pub returns-then-p-acc : goal.returns-then-p-acc

@@ -1,7 +1,6 @@
 -- `add_halves` meets its contract: each way out is one of the three laws of halves.
 use mathlib.Core.Path.{sym, ◌∙◌}
 use Rattle.arith.proofs.CappedLaws.{small_product, halves_exact, halves_large, top_large}
-use borrow.Author.Rules.{rules}
 use Rattle.arith.proofs.add_halves.Goals as goal
 
 pub overflow_mul-top : goal.overflow_mul-top

@@ -2,7 +2,6 @@
 use mathlib.Core.Path.{sym, ◌∙◌}
 use native.Mathlib.Omega.{arith}
 use Rattle.arith.proofs.CappedLaws.{capped_large, large_product, from_halves, from_halves_turned}
-use borrow.Author.Rules.{rules}
 use Rattle.arith.proofs.add_wide.Goals as goal
 
 pub returns-then-a-lt4294967296 : goal.returns-then-a-lt4294967296

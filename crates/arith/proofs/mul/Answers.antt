@@ -2,7 +2,6 @@
 use mathlib.Core.Path.{ap, ◌∙◌}
 use native.Mathlib.Nat.{zero-add}
 use Rattle.arith.specs.Capped.{capped}
-use borrow.Author.Rules.{rules}
 use Rattle.arith.proofs.mul.Goals as goal
 
 pub returns : goal.returns

@@ -1,6 +1,5 @@
 -- `mul_add` meets its contract: two factors below 2^32 have a product below 2^64.
 use Rattle.arith.proofs.CappedLaws.{small_product}
-use borrow.Author.Rules.{rules}
 use Rattle.arith.proofs.mul_add.Goals as goal
 
 pub overflow_mul-a : goal.overflow_mul-a

@@ -1,5 +1,4 @@
 -- `binomial` meets its contract: the entry that it reads is the binomial, by the test over the whole table.
-use borrow.Author.Rules.{rules}
 use Rattle.binomials.proofs.Entries.{table, table_at}
 use Rattle.binomials.proofs.binomial.Goals as goal
 

@@ -4,7 +4,6 @@ use mathlib.Core.Path.{ap, ◌∙◌}
 use native.Mathlib.Omega.{arith}
 use lib.ListN.{length, get_or}
 use Rattle.binomials.proofs.RowsLaws.{rows-length, rows_at}
-use borrow.Author.Rules.{rules}
 use Rattle.binomials.proofs.binomial_in.Goals as goal
 
 pub bounds-rows-n : goal.bounds-rows-n

@@ -1,7 +1,6 @@
 -- `fenmantle_advance` meets its contract: the call's answer, case by case, as numbers.
 use Rattle.board.proofs.NumberLaws.{told}
 use Rattle.calls.specs.Answers.{advance_numbers}
-use borrow.Author.Rules.{rules}
 use Rattle.board.proofs.fenmantle_advance.Goals as goal
 
 pub returns-in-Advanced : goal.returns-in-Advanced

@@ -1,7 +1,6 @@
 -- `fenmantle_plan` meets its contract: the call's answer, case by case, as numbers.
 use Rattle.board.proofs.NumberLaws.{told}
 use Rattle.calls.specs.Answers.{plan_numbers}
-use borrow.Author.Rules.{rules}
 use Rattle.board.proofs.fenmantle_plan.Goals as goal
 
 pub returns-in-Planned : goal.returns-in-Planned

@@ -1,7 +1,6 @@
 -- `fenmantle_start` meets its contract: the call's answer, case by case, as numbers.
 use Rattle.board.proofs.NumberLaws.{told}
 use Rattle.calls.specs.Answers.{start_numbers}
-use borrow.Author.Rules.{rules}
 use Rattle.board.proofs.fenmantle_start.Goals as goal
 
 pub returns-in-Started : goal.returns-in-Started

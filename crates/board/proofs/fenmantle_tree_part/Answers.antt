@@ -1,7 +1,6 @@
 -- `fenmantle_tree_part` meets its contract: the part is empty, or it ends just before the file's last byte.
 use native.Mathlib.Omega.{arith}
 use Rattle.board.proofs.NumberLaws.{part_none, part_inside, part_some}
-use borrow.Author.Rules.{rules}
 use Rattle.board.proofs.fenmantle_tree_part.Goals as goal
 
 pub returns-then-length-eq0 : goal.returns-then-length-eq0

@@ -1,8 +1,6 @@
 -- `busiest` meets its contract. The loop's invariant: `best` is the first of the largest among the centres before c (`Busy`).
 use Prim.Native.Nat.{◌-◌, ◌+◌}
-use native.Mathlib.Omega.{arith}
-use Rattle.busiest.proofs.BusiestLaws.{Busy, busy_first, busy_turn, busy_last}
-use borrow.Author.Rules.{rules}
+use Rattle.busiest.proofs.BusiestLaws.{Busy}
 use Rattle.busiest.proofs.busiest.Given as goal
 
 abbrev pub invariant-loop-c : goal.invariant-loop-c

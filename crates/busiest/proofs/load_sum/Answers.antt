@@ -1,8 +1,7 @@
 -- `load_sum` meets its contract. The loop's invariant: the loads of the first k chains are added, each at most 65535 (`Summed`).
 use Prim.Native.Nat.{◌+◌, ◌-◌, ◌*◌}
 use native.Mathlib.Omega.{arith}
-use Rattle.busiest.proofs.BusiestLaws.{Summed, summed_first, summed_turn, summed_last}
-use borrow.Author.Rules.{rules}
+use Rattle.busiest.proofs.BusiestLaws.{summed_first, summed_turn, summed_last}
 use Rattle.busiest.proofs.load_sum.Goals as goal
 
 pub loop-k-init : goal.loop-k-init

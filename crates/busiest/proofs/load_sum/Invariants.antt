@@ -1,8 +1,6 @@
 -- `load_sum` meets its contract. The loop's invariant: the loads of the first k chains are added, each at most 65535 (`Summed`).
-use Prim.Native.Nat.{◌+◌, ◌-◌, ◌*◌}
-use native.Mathlib.Omega.{arith}
-use Rattle.busiest.proofs.BusiestLaws.{Summed, summed_first, summed_turn, summed_last}
-use borrow.Author.Rules.{rules}
+use Prim.Native.Nat.{◌-◌}
+use Rattle.busiest.proofs.BusiestLaws.{Summed}
 use Rattle.busiest.proofs.load_sum.Given as goal
 
 abbrev pub invariant-loop-k : goal.invariant-loop-k

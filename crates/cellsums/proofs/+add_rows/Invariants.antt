@@ -1,13 +1,10 @@
 -- `add_rows` meets its contract, by recursion on the rows that are left: one turn of the first row is the others at other places.
-use Prim.Native.Nat.{◌+◌, ◌-◌, ◌^◌, ◌≤◌, ℕ, ◌<◌}
-use mathlib.Core.Path.{◌≡◌, sym, ◌∙◌}
+use Prim.Native.Nat.{◌-◌, ◌^◌, ◌≤◌, ◌<◌}
+use mathlib.Core.Path.{◌≡◌}
 use mathlib.Core.List.{◌∷◌}
-use native.Mathlib.Omega.{arith}
-use lib.ListN.{length, take, drop, length-take, length-drop}
+use lib.ListN.{length, take, drop}
 use Rattle.cellsums.specs.Places.{product, Within}
-use Rattle.cellsums.proofs.RowLaws.{Summed, sum_begins, sum_again, sum_stops, sum_ends}
-use Rattle.cellsums.proofs.PlaceLaws.{within_turn, left_low, right_low, within_none, within_as, sum_none, sum_as, first_row, last_rows}
-use borrow.Author.Rules.{rules}
+use Rattle.cellsums.proofs.RowLaws.{Summed}
 use Rattle.cellsums.proofs.+add_rows.Given as goal
 
 abbrev pub decreases-add_rows : goal.decreases-add_rows

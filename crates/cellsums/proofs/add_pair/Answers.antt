@@ -1,7 +1,6 @@
 -- `add_pair` meets its contract: the two cells that it reads are those of the pair.
 use mathlib.Core.Path.{◌∙◌}
 use Rattle.cellsums.proofs.PlaceLaws.{pair_sum}
-use borrow.Author.Rules.{rules}
 use Rattle.cellsums.proofs.add_pair.Goals as goal
 
 pub returns : goal.returns

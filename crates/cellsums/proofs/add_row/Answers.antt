@@ -1,12 +1,8 @@
 -- `add_row` meets its contract: one turn a pair.
-use Prim.Native.Nat.{◌-◌}
 use mathlib.Core.Path.{sym, ◌∙◌}
-use mathlib.Core.List.{[]}
 use native.Mathlib.Omega.{arith}
-use Rattle.cellsums.specs.Places.{product}
-use Rattle.cellsums.proofs.RowLaws.{Summed, sum_begins, sum_again, sum_stops, sum_ends}
+use Rattle.cellsums.proofs.RowLaws.{sum_begins, sum_again, sum_stops, sum_ends}
 use Rattle.cellsums.proofs.PlaceLaws.{within_turn, left_low, right_low}
-use borrow.Author.Rules.{rules}
 use Rattle.cellsums.proofs.add_row.Goals as goal
 
 pub loop-j-init : goal.loop-j-init

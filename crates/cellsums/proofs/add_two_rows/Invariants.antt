@@ -1,12 +1,8 @@
 -- `add_two_rows` meets its contract: one turn a row.
 use Prim.Native.Nat.{◌-◌}
-use mathlib.Core.Path.{sym, ◌∙◌}
 use mathlib.Core.List.{[]}
-use native.Mathlib.Omega.{arith}
 use Rattle.cellsums.specs.Places.{row_then, product}
-use Rattle.cellsums.proofs.RowLaws.{Summed, sum_begins, sum_again, sum_stops, sum_ends}
-use Rattle.cellsums.proofs.PlaceLaws.{within_turn, left_low, right_low}
-use borrow.Author.Rules.{rules}
+use Rattle.cellsums.proofs.RowLaws.{Summed}
 use Rattle.cellsums.proofs.add_two_rows.Given as goal
 
 abbrev pub invariant-loop-j : goal.invariant-loop-j

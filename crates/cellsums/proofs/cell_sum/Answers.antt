@@ -1,7 +1,6 @@
 -- `cell_sum` meets its contract: it only picks the function that sums.
 use mathlib.Core.Path.{◌∙◌}
 use Rattle.cellsums.proofs.PlaceLaws.{within_none, within_as, sum_none, sum_as, last_row}
-use borrow.Author.Rules.{rules}
 use Rattle.cellsums.proofs.cell_sum.Goals as goal
 
 pub add_pair-requires : goal.add_pair-requires

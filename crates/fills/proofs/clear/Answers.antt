@@ -1,8 +1,5 @@
 -- `clear` meets its contract: after i cells these are 0 and the rest is as it was.
-use Prim.Native.Nat.{◌-◌}
-use lib.ListN.{length}
-use borrow.Author.Rules.{rules}
-use Rattle.fills.proofs.FillLaws.{Cleared, cleared_first, cleared_turn, cleared_last}
+use Rattle.fills.proofs.FillLaws.{cleared_first, cleared_turn, cleared_last}
 use Rattle.fills.proofs.clear.Goals as goal
 
 pub loop-i-init : goal.loop-i-init

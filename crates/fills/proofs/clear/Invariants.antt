@@ -1,8 +1,7 @@
 -- `clear` meets its contract: after i cells these are 0 and the rest is as it was.
 use Prim.Native.Nat.{◌-◌}
 use lib.ListN.{length}
-use borrow.Author.Rules.{rules}
-use Rattle.fills.proofs.FillLaws.{Cleared, cleared_first, cleared_turn, cleared_last}
+use Rattle.fills.proofs.FillLaws.{Cleared}
 use Rattle.fills.proofs.clear.Given as goal
 
 abbrev pub invariant-loop-i : goal.invariant-loop-i

@@ -1,10 +1,6 @@
 -- `fill` meets its contract: after i nodes their cells are written, and the rest is as it was.
 use Prim.Native.Nat.{◌-◌}
-use mathlib.Core.Path.{sym}
-use native.Mathlib.Omega.{arith}
-use borrow.Author.Rules.{rules}
-use Rattle.fills.proofs.PreparedLaws.{node_ready}
-use Rattle.fills.proofs.TurnLaws.{Written, written_first, written_last, written_turn, inside, next_low, next_room}
+use Rattle.fills.proofs.TurnLaws.{Written}
 use Rattle.fills.proofs.fill.Given as goal
 
 abbrev pub invariant-loop-next : goal.invariant-loop-next

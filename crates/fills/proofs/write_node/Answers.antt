@@ -5,7 +5,6 @@ use Rattle.calls.specs.Start.{too_large}
 use Rattle.fills.specs.Nodes.{put}
 use Rattle.fills.proofs.LeafLaws.{part_room}
 use Rattle.fills.proofs.NodeLaws.{leaf_cells_lem, join_put}
-use borrow.Author.Rules.{rules}
 use Rattle.fills.proofs.write_node.Goals as goal
 
 pub returns-then-n-eq0 : goal.returns-then-n-eq0

@@ -1,6 +1,5 @@
 -- `next` meets its contract, case by case of its tests.
 use native.Mathlib.Omega.{arith}
-use borrow.Author.Rules.{rules}
 use Rattle.joins.proofs.TurnLaws.{next_over, next_on, next_spent}
 use Rattle.joins.proofs.next.Goals as goal
 

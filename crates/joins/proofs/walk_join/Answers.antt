@@ -2,7 +2,6 @@
 use mathlib.Core.Path.{refl}
 use native.Mathlib.Omega.{arith}
 use Rattle.joins.proofs.JoinLaws.{strides-length, used_sound, used-walk}
-use borrow.Author.Rules.{rules}
 use Rattle.joins.proofs.walk_join.Goals as goal
 
 pub flatten-used-requires : goal.flatten-used-requires

@@ -1,6 +1,5 @@
 -- `plan` meets its contract: refused as asked, or the table's cells and pairs.
 use Rattle.plan.proofs.PlanLaws.{plan-refused, plan_granted}
-use borrow.Author.Rules.{rules}
 use Rattle.plan.proofs.plan.Goals as goal
 
 pub returns-in-Refused : goal.returns-in-Refused

@@ -3,7 +3,6 @@ use mathlib.Core.Path.{ap, ◌∙◌}
 use native.Mathlib.Omega.{arith}
 use Rattle.arith.specs.Capped.{capped}
 use Rattle.rates.proofs.LoweredLaws.{kept_same, kept_more, not_run, run_cells, run_value}
-use borrow.Author.Rules.{rules}
 use Rattle.rates.proofs.numerator.Goals as goal
 
 pub whole_value-requires : goal.whole_value-requires

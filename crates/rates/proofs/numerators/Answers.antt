@@ -1,10 +1,8 @@
 -- `numerators` meets its contract. The loop's invariant: the numerators of the first k chains stand in their places, each below 2^64
 -- (`Lowerings`).
-use Prim.Native.Nat.{◌-◌}
 use native.Mathlib.Omega.{arith}
 use Rattle.rates.proofs.LoweredLaws.{kept_then}
-use Rattle.rates.proofs.NumberedLaws.{Lowerings, lowerings_first, lowerings_turn, lowerings_stop, lowerings_last}
-use borrow.Author.Rules.{rules}
+use Rattle.rates.proofs.NumberedLaws.{lowerings_first, lowerings_turn, lowerings_stop, lowerings_last}
 use Rattle.rates.proofs.numerators.Goals as goal
 
 pub loop-k-init : goal.loop-k-init

@@ -1,10 +1,7 @@
 -- `numerators` meets its contract. The loop's invariant: the numerators of the first k chains stand in their places, each below 2^64
 -- (`Lowerings`).
 use Prim.Native.Nat.{◌-◌}
-use native.Mathlib.Omega.{arith}
-use Rattle.rates.proofs.LoweredLaws.{kept_then}
-use Rattle.rates.proofs.NumberedLaws.{Lowerings, lowerings_first, lowerings_turn, lowerings_stop, lowerings_last}
-use borrow.Author.Rules.{rules}
+use Rattle.rates.proofs.NumberedLaws.{Lowerings}
 use Rattle.rates.proofs.numerators.Given as goal
 
 abbrev pub invariant-loop-k : goal.invariant-loop-k

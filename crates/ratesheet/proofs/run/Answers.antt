@@ -3,7 +3,6 @@ use mathlib.Core.Path.{◌∙◌}
 use Rattle.modelfile.specs.Network.{windows_of}
 use Rattle.rates.proofs.LoweredLaws.{kept_then}
 use Rattle.ratesheet.proofs.SheetLaws.{full_is, value_exact, value_large, value_kept}
-use borrow.Author.Rules.{rules}
 use Rattle.ratesheet.proofs.run.Goals as goal
 
 pub whole_value-requires : goal.whole_value-requires

@@ -2,7 +2,6 @@
 use mathlib.Core.Path.{◌∙◌}
 use Rattle.plan.proofs.PlanLaws.{file_guaranteed}
 use Rattle.ratesheet.proofs.SheetLaws.{file_refused, file_read}
-use borrow.Author.Rules.{rules}
 use Rattle.ratesheet.proofs.sheet.Goals as goal
 
 pub run_and_clear-requires : goal.run_and_clear-requires

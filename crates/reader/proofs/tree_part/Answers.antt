@@ -4,7 +4,6 @@ use mathlib.Core.Path.{◌≡◌, sym, ap}
 use mathlib.Core.List.{List, []}
 use native.Mathlib.Omega.{arith}
 use lib.ListN.{length, take, drop}
-use borrow.Author.Rules.{rules}
 use Rattle.modelfile.specs.File.{read_file}
 use Rattle.modelfile.specs.Part.{tree_part, part_from, bytes_on}
 use Rattle.modelfile.specs.declared.Verdict.{Verdict}

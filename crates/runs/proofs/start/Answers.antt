@@ -1,7 +1,6 @@
 -- `start` meets its contract: refused as asked, or as the prepared run is started.
 use mathlib.Core.Path.{refl}
 use Rattle.runs.proofs.StartLaws.{left_is, start_refused, start_granted}
-use borrow.Author.Rules.{rules}
 use Rattle.runs.proofs.start.Goals as goal
 
 pub start_in-requires : goal.start_in-requires

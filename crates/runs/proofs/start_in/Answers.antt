@@ -1,7 +1,6 @@
 -- `start_in` meets its contract: no room, a leaf too large, or filled.
 use mathlib.Core.Path.{refl, sym, ◌∙◌}
 use Rattle.runs.proofs.StartLaws.{left_is, start_full, room, start_large, start_filled}
-use borrow.Author.Rules.{rules}
 use Rattle.runs.proofs.start_in.Goals as goal
 
 pub returns-then-no_room : goal.returns-then-no_room

@@ -1,7 +1,6 @@
 -- `join_pairs` meets its contract: the table's entries describe the join.
 use mathlib.Core.Path.{◌∙◌}
 use native.Mathlib.Omega.{arith}
-use borrow.Author.Rules.{rules}
 use Rattle.spends.proofs.JoinLaws.{ends, left_long, right_long, own_long, join_of, join_walked}
 use Rattle.spends.proofs.join_pairs.Goals as goal
 

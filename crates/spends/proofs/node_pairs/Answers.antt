@@ -1,5 +1,4 @@
 -- `node_pairs` meets its contract, case by case of its tests.
-use borrow.Author.Rules.{rules}
 use Rattle.spends.proofs.NodeLaws.{node_leaf, node_past, node_join, node_walked, quota_over}
 use Rattle.spends.proofs.node_pairs.Goals as goal
 

@@ -1,5 +1,4 @@
 -- `spend` meets its contract: without a budget the pairs need only be counted, and the table has their number.
-use borrow.Author.Rules.{rules}
 use Rattle.spends.proofs.NodeLaws.{quota_over, quota_none}
 use Rattle.plan.proofs.PreparedLaws.{pairs_counted}
 use Rattle.spends.proofs.spend.Goals as goal

@@ -1,11 +1,10 @@
 -- `table_pairs` meets its contract: after i nodes the walk has gone over the pairs of the first i.
-use Prim.Native.Nat.{◌-◌}
 use mathlib.Core.Path.{refl}
 use native.Mathlib.Omega.{arith}
 use borrow.Author.Rules.{rules}
 use Rattle.joins.proofs.TurnLaws.{turn_less}
 use Rattle.plan.proofs.PreparedLaws.{count_few}
-use Rattle.spends.proofs.TableLaws.{Walked, walked_first, walked_turn, walked_next, walked_last, node_in}
+use Rattle.spends.proofs.TableLaws.{walked_first, walked_turn, walked_next, walked_last, node_in}
 use Rattle.spends.proofs.table_pairs.Goals as goal
 
 pub loop-i-init : goal.loop-i-init

@@ -1,11 +1,8 @@
 -- `fill` meets its contract, by recursion on the chains that are left, down to `fill_last`. Each turn of the loop writes the cells with one
 -- number of messages of chain k; what it asks for and leaves is in FillingLaws.
-use Prim.Native.Nat.{ℕ, ◌-◌, ◌<◌}
 use mathlib.Core.Path.{refl}
 use native.Mathlib.Omega.{arith}
-use lib.ListN.{length}
-use borrow.Author.Rules.{rules}
-use Rattle.weights.proofs.FillingLaws.{Filling, start_low, filling_start, index_small, sum_small, product_low, deeper, filled, filling_more, power_more_low}
+use Rattle.weights.proofs.FillingLaws.{start_low, filling_start, index_small, sum_small, product_low, deeper, filled, filling_more, power_more_low}
 use Rattle.weights.proofs.+fill.Goals as goal
 
 pub overflow_add-k : goal.overflow_add-k

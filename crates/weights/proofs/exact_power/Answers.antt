@@ -2,7 +2,6 @@
 use mathlib.Core.Path.{sym, ◌∙◌}
 use native.Mathlib.Omega.{arith}
 use Rattle.arith.proofs.CappedLaws.{exact_says, large_says}
-use borrow.Author.Rules.{rules}
 use Rattle.weights.proofs.exact_power.Goals as goal
 
 pub returns-in-Exact : goal.returns-in-Exact

@@ -1,10 +1,8 @@
 -- `fill_last` meets its contract: each turn stores the one cell with i messages of the last chain. What a turn asks for and leaves is in
 -- FillingLaws, as for `fill`.
-use Prim.Native.Nat.{◌-◌}
 use mathlib.Core.Path.{refl}
 use native.Mathlib.Omega.{arith}
-use borrow.Author.Rules.{rules}
-use Rattle.weights.proofs.FillingLaws.{Filling, start_low, filling_start, index_small, sum_small, product_low, cell_inside, last_filled, last_more, power_more_low}
+use Rattle.weights.proofs.FillingLaws.{start_low, filling_start, index_small, sum_small, product_low, cell_inside, last_filled, last_more, power_more_low}
 use Rattle.weights.proofs.fill_last.Goals as goal
 
 pub bounds-loads-k : goal.bounds-loads-k

@@ -4,7 +4,6 @@ use borrow.Author.Tests.{lt-leb, le-leb}
 use Rattle.arith.proofs.CappedLaws.{exact_says, large_says}
 use Rattle.weights.proofs.MonotonyLaws.{fits_of}
 use Rattle.weights.proofs.BetweenLaws.{some_is_top}
-use borrow.Author.Rules.{rules}
 use Rattle.weights.proofs.some_too_large.Goals as goal
 
 pub weight_of-requires : goal.weight_of-requires

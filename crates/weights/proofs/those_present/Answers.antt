@@ -1,10 +1,9 @@
 -- `those_present` meets its contract: what is kept so far and what of the rest is present make up those present.
-use Prim.Native.Nat.{◌-◌, ◌≤◌, ◌<◌}
+use Prim.Native.Nat.{◌≤◌, ◌<◌}
 use mathlib.Core.Path.{refl, sym, ◌∙◌}
 use native.Mathlib.Omega.{arith}
 use lib.ListN.{length}
-use borrow.Author.Rules.{rules}
-use Rattle.weights.proofs.PresentLaws.{Keeping, presence_low, keeping_start, keeping_low, keeping_more, keeping_done}
+use Rattle.weights.proofs.PresentLaws.{presence_low, keeping_start, keeping_low, keeping_more, keeping_done}
 use Rattle.weights.proofs.those_present.Goals as goal
 
 pub loop-k-init : goal.loop-k-init

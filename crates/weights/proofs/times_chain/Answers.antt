@@ -2,7 +2,6 @@
 use mathlib.Core.Path.{sym, ◌∙◌}
 use Rattle.weights.proofs.PowerLaws.{then_exact, then_large}
 use Rattle.weights.proofs.WeightLaws.{binomial_pos}
-use borrow.Author.Rules.{rules}
 use Rattle.weights.proofs.times_chain.Goals as goal
 
 pub returns-in-Exact : goal.returns-in-Exact

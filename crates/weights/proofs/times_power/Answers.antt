@@ -1,6 +1,5 @@
 -- `times_power` meets its contract. The loop's invariant: `product` is `acc` times `i` loads.
-use Prim.Native.Nat.{◌*◌, ◌-◌, ◌^◌, ◌≤◌, ◌<◌}
-use mathlib.Core.Path.{◌≡◌, sym, ◌∙◌}
+use mathlib.Core.Path.{sym, ◌∙◌}
 use borrow.Author.Rules.{rules}
 use Rattle.weights.proofs.PowerLaws.{power_none, power_exact, power_large, power_done}
 use Rattle.weights.proofs.times_power.Goals as goal

@@ -1,8 +1,6 @@
 -- `times_power` meets its contract. The loop's invariant: `product` is `acc` times `i` loads.
 use Prim.Native.Nat.{◌*◌, ◌-◌, ◌^◌, ◌≤◌, ◌<◌}
-use mathlib.Core.Path.{◌≡◌, sym, ◌∙◌}
-use borrow.Author.Rules.{rules}
-use Rattle.weights.proofs.PowerLaws.{power_none, power_exact, power_large, power_done}
+use mathlib.Core.Path.{◌≡◌}
 use Rattle.weights.proofs.times_power.Given as goal
 
 abbrev pub invariant-loop-i : goal.invariant-loop-i

@@ -1,11 +1,8 @@
 -- `weight_of` meets its contract. The loop's invariant: `acc` is the part of the weight that the first `k` chains make, `before` the
 -- sum of their messages.
 use Prim.Native.Nat.{◌*◌, ◌-◌, ◌^◌, ◌≤◌, ◌<◌}
-use mathlib.Core.Path.{sym, ◌∙◌}
-use native.Mathlib.Omega.{arith}
-use borrow.Author.Rules.{rules}
 use lib.ListN.{length}
-use Rattle.weights.proofs.WeightLaws.{Reached, reached_none, reached_done, part_exact, part_large, fits-length}
+use Rattle.weights.proofs.WeightLaws.{Reached}
 use Rattle.weights.proofs.weight_of.Given as goal
 
 abbrev pub invariant-loop-k : goal.invariant-loop-k

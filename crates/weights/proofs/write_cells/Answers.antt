@@ -1,7 +1,6 @@
 -- `write_cells` meets its contract: the leaf is filled from the first chain present on; where none is, its one cell is 1.
 use native.Mathlib.Omega.{arith}
 use Rattle.weights.proofs.LeafLaws.{taken_count, kept_to_fill, kept_filled, one_room, one_written}
-use borrow.Author.Rules.{rules}
 use Rattle.weights.proofs.write_cells.Goals as goal
 
 pub bounds-out-0 : goal.bounds-out-0

@@ -1,9 +1,7 @@
 -- `ends_of` meets its contract: the ends of the chains passed stand in their rows.
-use Prim.Native.Nat.{◌-◌}
-use borrow.Author.Rules.{rules}
 use Rattle.weights.specs.Leaf.{lowest, highest}
-use Rattle.plan.proofs.RowLaws.{Rowed, rowed_first, rowed_last}
-use Rattle.fills.specs.Nodes.{span_at, ends_by}
+use Rattle.plan.proofs.RowLaws.{rowed_first, rowed_last}
+use Rattle.fills.specs.Nodes.{ends_by}
 use Rattle.fills.proofs.EndLaws.{end_turn}
 use Rattle.fills.proofs.leaves.ends_of.Goals as goal
 

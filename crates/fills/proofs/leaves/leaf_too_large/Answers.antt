@@ -3,7 +3,6 @@ use mathlib.Core.Path.{ap, ◌∙◌}
 use Rattle.sums.specs.Lists.{some}
 use Rattle.calls.specs.Start.{too_large}
 use Rattle.fills.proofs.LeafLaws.{lows_room, lows_length, highs_room, highs_length, part_ends, part_cells}
-use borrow.Author.Rules.{rules}
 use Rattle.fills.proofs.leaves.leaf_too_large.Goals as goal
 
 pub slice_bounds-lows-end : goal.slice_bounds-lows-end

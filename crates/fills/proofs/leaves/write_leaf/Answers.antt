@@ -3,7 +3,6 @@ use mathlib.Core.Path.{sym, ap, ◌∙◌}
 use Rattle.sums.specs.Lists.{some}
 use Rattle.calls.specs.Start.{too_large}
 use Rattle.fills.proofs.LeafLaws.{lows_room, lows_length, highs_room, highs_length, part_ends, part_cells, part_length, length_cells, part_room, put_part}
-use borrow.Author.Rules.{rules}
 use Rattle.fills.proofs.leaves.write_leaf.Goals as goal
 
 pub slice_bounds-lows-end : goal.slice_bounds-lows-end

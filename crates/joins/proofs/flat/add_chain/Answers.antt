@@ -2,7 +2,6 @@
 use mathlib.Core.Path.{◌∙◌}
 use Rattle.joins.specs.Flat.{flat}
 use Rattle.joins.proofs.BuildLaws.{no_left, no_right, closed, still_shared}
-use borrow.Author.Rules.{rules}
 use Rattle.joins.proofs.flat.add_chain.Goals as goal
 
 pub returns-then-a-eq0 : goal.returns-then-a-eq0

@@ -1,7 +1,6 @@
 -- `add_closed` meets its contract: a row is appended, and every cell has n + 1 times as many pairs.
 use native.Mathlib.Omega.{arith}
 use Rattle.joins.proofs.BuildLaws.{closed_added}
-use borrow.Author.Rules.{rules}
 use Rattle.joins.proofs.flat.add_closed.Goals as goal
 
 pub returns : goal.returns

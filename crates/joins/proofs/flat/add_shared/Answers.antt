@@ -1,7 +1,6 @@
 -- `add_shared` meets its contract: a loop and a row are appended.
 use native.Mathlib.Omega.{arith}
 use Rattle.joins.proofs.BuildLaws.{shared_added, grown_more}
-use borrow.Author.Rules.{rules}
 use Rattle.joins.proofs.flat.add_shared.Goals as goal
 
 pub returns : goal.returns

@@ -1,7 +1,6 @@
 -- `add_single` meets its contract: a loop is appended where the chain is partial at the join.
 use native.Mathlib.Omega.{arith}
 use Rattle.joins.proofs.BuildLaws.{single_added, single_none, grown_more}
-use borrow.Author.Rules.{rules}
 use Rattle.joins.proofs.flat.add_single.Goals as goal
 
 pub returns-then-c-eq0 : goal.returns-then-c-eq0

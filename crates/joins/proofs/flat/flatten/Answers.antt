@@ -1,8 +1,5 @@
 -- `flatten` meets its contract: one turn a chain.
-use Prim.Native.Nat.{◌-◌}
-use lib.ListN.{length}
-use Rattle.joins.proofs.BuildLaws.{Building, building_none, building_room, building_more, built}
-use borrow.Author.Rules.{rules}
+use Rattle.joins.proofs.BuildLaws.{building_none, building_room, building_more, built}
 use Rattle.joins.proofs.flat.flatten.Goals as goal
 
 pub loop-k-init : goal.loop-k-init

@@ -1,8 +1,7 @@
 -- `flatten` meets its contract: one turn a chain.
 use Prim.Native.Nat.{◌-◌}
 use lib.ListN.{length}
-use Rattle.joins.proofs.BuildLaws.{Building, building_none, building_room, building_more, built}
-use borrow.Author.Rules.{rules}
+use Rattle.joins.proofs.BuildLaws.{Building}
 use Rattle.joins.proofs.flat.flatten.Given as goal
 
 abbrev pub invariant-loop-k : goal.invariant-loop-k

@@ -2,7 +2,6 @@
 use native.Mathlib.Omega.{arith}
 use lib.ListN.{length-set}
 use Rattle.joins.proofs.BuildLaws.{write_five}
-use borrow.Author.Rules.{rules}
 use Rattle.joins.proofs.flat.write_loop.Goals as goal
 
 pub bounds-loops-at-2 : goal.bounds-loops-at-2

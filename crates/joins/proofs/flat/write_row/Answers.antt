@@ -2,7 +2,6 @@
 use native.Mathlib.Omega.{arith}
 use lib.ListN.{length-set}
 use Rattle.joins.proofs.BuildLaws.{write_three}
-use borrow.Author.Rules.{rules}
 use Rattle.joins.proofs.flat.write_row.Goals as goal
 
 pub bounds-rows-at-2 : goal.bounds-rows-at-2

@@ -1,13 +1,10 @@
 -- `walk_loops` meets its contract, by recursion on the loops that are left: one turn of the first loop is the others at other places.
-use Prim.Native.Nat.{ℕ, ◌+◌, ◌-◌, ◌^◌, ◌≤◌, ◌<◌}
-use mathlib.Core.Path.{◌≡◌, refl, ◌∙◌}
+use Prim.Native.Nat.{◌+◌, ◌-◌}
+use mathlib.Core.Path.{refl, ◌∙◌}
 use native.Mathlib.Omega.{arith}
-use lib.ListN.{length, get_or, set, take, drop, length-take, length-drop}
-use Rattle.joins.specs.Walk.{state}
-use Rattle.joins.specs.Loops.{loop_then, Sound}
-use Rattle.joins.proofs.TurnLaws.{Walked, walk_begins, turn_less}
-use Rattle.joins.proofs.LoopLaws.{loop_turn, loop_again, loop_ends, turn_numbers, turn_sound, write_again, write_length, restored, sound_as, first_is, few_sound, few_pairs}
-use borrow.Author.Rules.{rules}
+use lib.ListN.{length, drop, length-take, length-drop}
+use Rattle.joins.proofs.TurnLaws.{walk_begins, turn_less}
+use Rattle.joins.proofs.LoopLaws.{loop_again, loop_ends, turn_numbers, turn_sound, write_again, write_length, restored, sound_as, first_is, few_sound, few_pairs}
 use Rattle.joins.proofs.walks.+walk_loops.Goals as goal
 
 pub walk_last-requires : goal.walk_last-requires

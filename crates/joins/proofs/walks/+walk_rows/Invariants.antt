@@ -1,15 +1,11 @@
 -- `walk_rows` meets its contract, by recursion on the rows that are left: one turn of the first row is the others at other places.
-use Prim.Native.Nat.{◌-◌, ◌^◌, ◌≤◌, ℕ, ◌<◌}
-use mathlib.Core.Path.{◌≡◌, refl}
+use Prim.Native.Nat.{◌-◌, ◌^◌, ◌≤◌, ◌<◌}
+use mathlib.Core.Path.{◌≡◌}
 use mathlib.Core.List.{◌∷◌}
-use native.Mathlib.Omega.{arith}
-use lib.ListN.{length, take, drop, length-take, length-drop}
-use Rattle.cellsums.specs.Places.{row_at}
-use Rattle.cellsums.proofs.PlaceLaws.{first_row, left_low, right_low}
+use lib.ListN.{length, take, drop}
 use Rattle.joins.specs.Walk.{state}
 use Rattle.joins.specs.Loops.{Inside}
-use Rattle.joins.proofs.TurnLaws.{Walked, walk_begins, turn_less, row_turn, row_again, row_ends, row_none, inside_none, inside_as, inside_turn}
-use borrow.Author.Rules.{rules}
+use Rattle.joins.proofs.TurnLaws.{Walked, row_turn}
 use Rattle.joins.proofs.walks.+walk_rows.Given as goal
 
 abbrev pub decreases-walk_rows : goal.decreases-walk_rows

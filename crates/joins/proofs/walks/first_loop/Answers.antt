@@ -1,5 +1,4 @@
 -- `first_loop` meets its contract, on either side of its test.
-use borrow.Author.Rules.{rules}
 use Rattle.joins.proofs.LoopLaws.{first_dummy, first_read}
 use Rattle.joins.proofs.walks.first_loop.Goals as goal
 

@@ -1,5 +1,4 @@
 -- `one_by_one` meets its contract: a copy is equal to what it copies.
-use borrow.Author.Rules.{rules}
 use Rattle.joins.proofs.walks.one_by_one.Goals as goal
 
 pub walk_rows-e-requires : goal.walk_rows-e-requires

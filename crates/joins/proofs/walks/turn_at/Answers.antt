@@ -1,5 +1,4 @@
 -- `turn_at` meets its contract: what it requires is that its numbers fit.
-use borrow.Author.Rules.{rules}
 use Rattle.joins.proofs.walks.turn_at.Goals as goal
 
 pub returns : goal.returns

@@ -2,7 +2,6 @@
 use Prim.Native.Nat.{ℕ}
 use mathlib.Core.Path.{sym}
 use lib.ListN.{get_or-eq_default}
-use borrow.Author.Rules.{rules}
 use Rattle.joins.proofs.walks.value_at.Goals as goal
 
 pub returns-else-p-rows : goal.returns-else-p-rows

@@ -1,7 +1,6 @@
 -- `walk_cell` meets its contract: a cell is passed over, or its whole sum is added, or its pairs go one by one.
 use mathlib.Core.Path.{refl, sym, ◌∙◌}
 use Rattle.joins.proofs.CellLaws.{cell_over, cell_past, cell_added}
-use borrow.Author.Rules.{rules}
 use Rattle.joins.proofs.walks.walk_cell.Goals as goal
 
 pub returns-then-q : goal.returns-then-q

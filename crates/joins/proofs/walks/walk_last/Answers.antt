@@ -1,13 +1,9 @@
 -- `walk_last` meets its contract: one turn a cell. Other than at p the rows stay as they were, and p is restored.
-use Prim.Native.Nat.{ℕ, ◌+◌, ◌-◌, ◌^◌, ◌<◌}
-use mathlib.Core.Path.{◌≡◌, refl, ◌∙◌}
-use mathlib.Core.List.{[]}
+use Prim.Native.Nat.{◌+◌}
+use mathlib.Core.Path.{refl, ◌∙◌}
 use native.Mathlib.Omega.{arith}
-use lib.ListN.{length, get_or, set}
-use Rattle.joins.specs.Walk.{state}
-use Rattle.joins.proofs.TurnLaws.{Walked, walk_begins, turn_less}
-use Rattle.joins.proofs.LoopLaws.{loop_turn, loop_ends, turn_numbers, turn_sound, last_at, last_again, write_again, write_length, restored}
-use borrow.Author.Rules.{rules}
+use Rattle.joins.proofs.TurnLaws.{walk_begins, turn_less}
+use Rattle.joins.proofs.LoopLaws.{loop_ends, turn_numbers, turn_sound, last_at, last_again, write_again, write_length, restored}
 use Rattle.joins.proofs.walks.walk_last.Goals as goal
 
 pub loop-i-init : goal.loop-i-init

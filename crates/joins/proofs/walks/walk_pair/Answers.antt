@@ -1,7 +1,6 @@
 -- `walk_pair` meets its contract: each way out is one of the ways that a pair can go.
 use mathlib.Core.Path.{sym, ◌∙◌}
 use Rattle.joins.proofs.PairLaws.{pair_over, pair_skipped, pair_spent, pair_added, pair_too_large}
-use borrow.Author.Rules.{rules}
 use Rattle.joins.proofs.walks.walk_pair.Goals as goal
 
 pub returns-then-q : goal.returns-then-q

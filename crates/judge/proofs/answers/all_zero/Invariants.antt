@@ -1,6 +1,5 @@
 -- The cells counted stay at most as many as there are.
 use Prim.Native.Nat.{◌-◌, ◌≤◌}
-use borrow.Author.Rules.{rules}
 use Rattle.judge.proofs.answers.all_zero.Given as goal
 
 abbrev pub invariant-loop-i : goal.invariant-loop-i

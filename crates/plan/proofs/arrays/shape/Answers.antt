@@ -1,6 +1,5 @@
 -- `arrays::shape` meets its contract. The loop's invariant: cells and strides of the chains from k + 1 on (`Shaped`).
-use Rattle.plan.proofs.BackLaws.{Shaped, shaped_first, shaped_few, shaped_turn, shape_is}
-use borrow.Author.Rules.{rules}
+use Rattle.plan.proofs.BackLaws.{shaped_first, shaped_few, shaped_turn, shape_is}
 use native.Mathlib.Omega.{arith}
 use Rattle.plan.proofs.arrays.shape.Goals as goal
 

@@ -1,6 +1,5 @@
 -- `prepare` meets its contract: an accepted file guarantees what its model's run asks.
 use Rattle.plan.proofs.PlanLaws.{run_same, file_guaranteed, file_asked, file_refused}
-use borrow.Author.Rules.{rules}
 use Rattle.plan.proofs.asking.prepare.Goals as goal
 
 pub run_of-requires : goal.run_of-requires

@@ -1,6 +1,5 @@
 -- `refused` meets its contract: a refusal with anything beside it.
 use Rattle.plan.proofs.PlanLaws.{run_refused}
-use borrow.Author.Rules.{rules}
 use Rattle.plan.proofs.asking.refused.Goals as goal
 
 pub returns : goal.returns

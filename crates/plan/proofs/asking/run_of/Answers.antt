@@ -1,6 +1,5 @@
 -- `run_of` meets its contract: refused as the chain to lower is, or the table of the windows found.
 use Rattle.plan.proofs.PlanLaws.{run_same, lowering-refused, lowering_granted}
-use borrow.Author.Rules.{rules}
 use Rattle.plan.proofs.asking.run_of.Goals as goal
 
 pub returns-in-Refused : goal.returns-in-Refused

@@ -1,7 +1,6 @@
 -- `coverage::factor` meets its contract, case by case of the coverage left and right.
 use mathlib.Core.Path.{◌∙◌}
 use Rattle.plan.proofs.CoveringLaws.{factor-finished, factor-absent, factor_left, factor_alone, factor_shared}
-use borrow.Author.Rules.{rules}
 use Rattle.plan.proofs.coverage.factor.Goals as goal
 
 pub returns-in-Finished : goal.returns-in-Finished

@@ -1,7 +1,6 @@
 -- `coverage::shared_factor` meets its contract, case by case of the coverage at the join.
 use mathlib.Core.Path.{◌∙◌}
 use Rattle.plan.proofs.CoveringLaws.{shared_finished, shared_partial, shared_absent}
-use borrow.Author.Rules.{rules}
 use Rattle.plan.proofs.coverage.shared_factor.Goals as goal
 
 pub returns-in-Finished : goal.returns-in-Finished

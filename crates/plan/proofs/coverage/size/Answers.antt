@@ -1,6 +1,5 @@
 -- `coverage::size` meets its contract, case by case of the coverage.
 use Rattle.plan.proofs.CoveringLaws.{size-finished, size-partial, size-absent}
-use borrow.Author.Rules.{rules}
 use Rattle.plan.proofs.coverage.size.Goals as goal
 
 pub returns-in-Finished : goal.returns-in-Finished

@@ -1,6 +1,5 @@
 -- `coverage::stride` meets its contract, case by case of the coverage.
 use Rattle.plan.proofs.CoveringLaws.{stride-finished, stride-partial, stride-absent}
-use borrow.Author.Rules.{rules}
 use Rattle.plan.proofs.coverage.stride.Goals as goal
 
 pub returns-in-Finished : goal.returns-in-Finished

@@ -1,10 +1,7 @@
 -- `nodes::join_counts` meets its contract. The loop's invariant: the row is filled for the first k chains (`Rowed`).
 use mathlib.Core.Path.{refl}
-use Prim.Native.Nat.{◌+◌, ◌-◌}
-use lib.ListN.{get_or}
 use Rattle.plan.specs.Steps.{added}
-use Rattle.plan.proofs.RowLaws.{Rowed, rowed_first, rowed_turn, rowed_last}
-use borrow.Author.Rules.{rules}
+use Rattle.plan.proofs.RowLaws.{rowed_first, rowed_turn, rowed_last}
 use native.Mathlib.Omega.{arith}
 use Rattle.plan.proofs.nodes.join_counts.Goals as goal
 

@@ -1,6 +1,5 @@
 -- `nodes::join_node` meets its contract, by those of its counts, its shape and its pairs.
 use Rattle.plan.specs.Steps.{node_joined}
-use borrow.Author.Rules.{rules}
 use Rattle.plan.proofs.nodes.join_node.Goals as goal
 
 pub returns : goal.returns

@@ -1,9 +1,5 @@
 -- `nodes::leaf_counts` meets its contract. The loop's invariant: the row is filled for the first k chains (`Rowed`).
-use Prim.Native.Nat.{◌-◌}
-use mathlib.Core.List.{◌∷◌, []}
-use Rattle.plan.specs.Steps.{count_by}
-use Rattle.plan.proofs.RowLaws.{Rowed, rowed_first, rowed_turn, rowed_last}
-use borrow.Author.Rules.{rules}
+use Rattle.plan.proofs.RowLaws.{rowed_first, rowed_turn, rowed_last}
 use Rattle.plan.proofs.nodes.leaf_counts.Goals as goal
 
 pub loop-k-init : goal.loop-k-init

@@ -1,6 +1,5 @@
 -- `nodes::leaf_node` meets its contract, by those of its counts and its shape.
 use Rattle.plan.specs.Steps.{node_leaf}
-use borrow.Author.Rules.{rules}
 use Rattle.plan.proofs.nodes.leaf_node.Goals as goal
 
 pub returns : goal.returns

@@ -1,6 +1,5 @@
 -- `nodes::pairs` meets its contract. The loop's invariant: the product of the factors from chain k + 1 on (`Product`).
-use Rattle.plan.proofs.BackLaws.{Product, product_first, product_few, product_turn, pairs_are}
-use borrow.Author.Rules.{rules}
+use Rattle.plan.proofs.BackLaws.{product_first, product_few, product_turn, pairs_are}
 use native.Mathlib.Omega.{arith}
 use Rattle.plan.proofs.nodes.pairs.Goals as goal
 

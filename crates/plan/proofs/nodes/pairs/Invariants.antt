@@ -1,7 +1,5 @@
 -- `nodes::pairs` meets its contract. The loop's invariant: the product of the factors from chain k + 1 on (`Product`).
-use Rattle.plan.proofs.BackLaws.{Product, product_first, product_few, product_turn, pairs_are}
-use borrow.Author.Rules.{rules}
-use native.Mathlib.Omega.{arith}
+use Rattle.plan.proofs.BackLaws.{Product}
 use Rattle.plan.proofs.nodes.pairs.Given as goal
 
 abbrev pub invariant-loop-k : goal.invariant-loop-k

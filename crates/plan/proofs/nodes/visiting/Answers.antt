@@ -1,6 +1,5 @@
 -- `nodes::visiting` meets its contract: a load of 0 is no visit.
 use Rattle.plan.proofs.LoadLaws.{count_none, count_one}
-use borrow.Author.Rules.{rules}
 use Rattle.plan.proofs.nodes.visiting.Goals as goal
 
 pub returns-then-loads-centre-eq0 : goal.returns-then-loads-centre-eq0

@@ -5,7 +5,6 @@ use Rattle.plan.specs.Steps.{node_by, node_joined, node_leaf}
 use Rattle.plan.specs.declared.Chains.{Chains}
 use Rattle.plan.specs.declared.Node.{Node}
 use mathlib.Core.List.{List}
-use borrow.Author.Rules.{rules}
 use Rattle.plan.proofs.tables.made.Goals as goal
 
 by-join : (ch : Chains) (loads : List ℕ) (l r : Node) (b node : ℕ) → node ≡ 0 → node_joined ch l r b ≡ node_by ch loads l r b node

@@ -1,11 +1,9 @@
 -- `tables::total` meets its contract. The loop's invariant: the sum counts the visits to centres 1 to c.
-use Prim.Native.Nat.{◌-◌, ◌≤◌}
 use mathlib.Core.Path.{◌≡◌, refl}
 use Rattle.sums.specs.Lists.{from, those}
 use Rattle.plan.specs.Steps.{count_by}
 use Rattle.plan.proofs.RowLaws.{whole}
 use Rattle.plan.proofs.LoadLaws.{count_more, count_few}
-use borrow.Author.Rules.{rules}
 use native.Mathlib.Omega.{arith}
 use Rattle.plan.proofs.tables.total.Goals as goal
 

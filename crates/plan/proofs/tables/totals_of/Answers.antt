@@ -1,9 +1,5 @@
 -- `tables::totals_of` meets its contract. The loop's invariant: the row is filled for the first k chains (`Rowed`).
-use Prim.Native.Nat.{◌-◌}
-use Rattle.sums.specs.Lists.{from}
-use Rattle.plan.specs.Steps.{count_by}
-use Rattle.plan.proofs.RowLaws.{Rowed, rowed_first, rowed_turn, rowed_last}
-use borrow.Author.Rules.{rules}
+use Rattle.plan.proofs.RowLaws.{rowed_first, rowed_turn, rowed_last}
 use Rattle.plan.proofs.tables.totals_of.Goals as goal
 
 pub loop-k-init : goal.loop-k-init

@@ -2,8 +2,7 @@
 use Prim.Native.Nat.{◌-◌}
 use Rattle.sums.specs.Lists.{from}
 use Rattle.plan.specs.Steps.{count_by}
-use Rattle.plan.proofs.RowLaws.{Rowed, rowed_first, rowed_turn, rowed_last}
-use borrow.Author.Rules.{rules}
+use Rattle.plan.proofs.RowLaws.{Rowed}
 use Rattle.plan.proofs.tables.totals_of.Given as goal
 
 abbrev pub invariant-loop-k : goal.invariant-loop-k

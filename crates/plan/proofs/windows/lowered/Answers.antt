@@ -2,7 +2,6 @@
 use Prim.Native.Nat.{◌-◌}
 use Rattle.plan.proofs.LowerLaws.{lower_none, lower_above, lower_empty, lower_less}
 use native.Mathlib.Omega.{arith}
-use borrow.Author.Rules.{rules}
 use Rattle.plan.proofs.windows.lowered.Goals as goal
 
 pub returns-then-lower-eq0 : goal.returns-then-lower-eq0

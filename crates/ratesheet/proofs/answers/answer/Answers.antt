@@ -1,7 +1,6 @@
 -- `answer` meets its contract: 15 where a numerator is too large, else the numbers.
 use mathlib.Core.Path.{◌∙◌}
 use Rattle.ratesheet.proofs.SheetLaws.{answer_large, answer_made}
-use borrow.Author.Rules.{rules}
 use Rattle.ratesheet.proofs.answers.answer.Goals as goal
 
 pub returns-then-n : goal.returns-then-n

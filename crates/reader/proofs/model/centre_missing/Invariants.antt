@@ -1,12 +1,9 @@
 -- `reader::model::centre_missing`. The loop's invariant: a centre missing among those still to come is one missing among all.
 use Prim.Native.Nat.{◌-◌}
-use mathlib.Core.Path.{◌≡◌, refl}
+use mathlib.Core.Path.{◌≡◌}
 use lib.Dec.{eqb}
 use lib.ListN.{get_or}
-use borrow.Author.Rules.{rules}
-use borrow.Author.Tests.{eq-eqb, ne_eqb}
 use Rattle.sums.specs.Lists.{from, some}
-use Rattle.sums.proofs.SearchLaws.{some_start, some_hit, some_pass, some_end}
 use Rattle.modelfile.specs.Records.{centre_missing}
 use Rattle.reader.proofs.model.centre_missing.Given as goal
 

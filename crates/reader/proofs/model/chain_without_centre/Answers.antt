@@ -1,11 +1,9 @@
 -- `reader::model::chain_without_centre`. The loop's invariant: a chain without centre among those still to come is one among all.
-use Prim.Native.Nat.{◌-◌}
 use mathlib.Core.Bool.{not}
-use mathlib.Core.Path.{◌≡◌, refl, sym, ap, ◌∙◌}
+use mathlib.Core.Path.{refl, sym, ap, ◌∙◌}
 use borrow.Author.Rules.{rules}
-use Rattle.sums.specs.Lists.{from, some}
 use Rattle.sums.proofs.SearchLaws.{some_start, some_hit, some_pass, some_end}
-use Rattle.modelfile.specs.Records.{loaded, chain_without_centre}
+use Rattle.modelfile.specs.Records.{chain_without_centre}
 use Rattle.reader.proofs.model.chain_without_centre.Goals as goal
 
 pub loop-k-init : goal.loop-k-init

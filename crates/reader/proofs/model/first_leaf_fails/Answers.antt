@@ -1,5 +1,4 @@
 -- `reader::model::first_leaf_fails`. Where a node stands already, the conjunction is false whatever the chains are.
-use borrow.Author.Rules.{rules}
 use borrow.Author.Tests.{eq-eqb, ne_eqb}
 use Rattle.reader.proofs.model.first_leaf_fails.Goals as goal
 

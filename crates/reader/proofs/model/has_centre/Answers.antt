@@ -1,12 +1,8 @@
 -- `reader::model::has_centre`. The loop's invariant: a load among the centres still to come is a load among all.
-use Prim.Native.Nat.{◌-◌}
 use mathlib.Core.Bool.{not}
-use mathlib.Core.Path.{◌≡◌, refl, ap}
-use borrow.Author.Rules.{rules}
+use mathlib.Core.Path.{refl, ap}
 use borrow.Author.Tests.{eq-eqb, ne_eqb}
-use Rattle.sums.specs.Lists.{from, some}
 use Rattle.sums.proofs.SearchLaws.{some_hit, some_pass, some_end}
-use Rattle.modelfile.specs.Records.{loaded}
 use Rattle.reader.proofs.model.has_centre.Goals as goal
 
 pub loop-c-init : goal.loop-c-init

@@ -1,5 +1,4 @@
 -- `reader::numbers::centre_at`. The byte, widened, is the number that the constructor is given.
-use borrow.Author.Rules.{rules}
 use Rattle.reader.proofs.numbers.centre_at.Goals as goal
 
 pub returns : goal.returns

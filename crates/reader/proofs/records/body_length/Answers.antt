@@ -3,7 +3,6 @@ use mathlib.Core.List.{[], ◌∷◌}
 use mathlib.Core.Path.{refl, sym}
 use native.Mathlib.Omega.{arith}
 use lib.ListN.{get_or-eq_default}
-use borrow.Author.Rules.{rules}
 use Rattle.modelfile.specs.Records.{body_length}
 use Rattle.reader.proofs.DueLaws.{body_few}
 use Rattle.reader.proofs.records.body_length.Goals as goal

@@ -1,5 +1,4 @@
 -- `reader::records::read_end`. At each `return` a law of NodeLaws turns the tests that led there into the definition's value.
-use borrow.Author.Rules.{rules}
 use Rattle.reader.specs.Said.{said, Room}
 use Rattle.reader.proofs.NodeLaws.{end_trees, end_missing, end_after, end_last}
 use Rattle.reader.proofs.records.read_end.Goals as goal

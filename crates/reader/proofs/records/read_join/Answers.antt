@@ -1,6 +1,5 @@
 -- `reader::records::read_join`. At each `return` a law of NodeLaws turns the test that led there into the definition's value.
 use native.Mathlib.Omega.{arith}
-use borrow.Author.Rules.{rules}
 use Rattle.reader.specs.Said.{said, Room}
 use Rattle.modelfile.proofs.SoundLaws.{join_room}
 use Rattle.reader.proofs.NodeLaws.{join_few, join_more}

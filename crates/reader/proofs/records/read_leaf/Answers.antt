@@ -1,6 +1,5 @@
 -- `reader::records::read_leaf`. At each `return` a law of NodeLaws turns the tests that led there into the definition's value. A
 -- centre that is not in the tree yet leaves room for one node more.
-use borrow.Author.Rules.{rules}
 use Rattle.reader.specs.Said.{said, Room}
 use Rattle.reader.proofs.NodeLaws.{leaf_centre, leaf_first, leaf_again, leaf_fits, leaf_more}
 use Rattle.reader.proofs.NumberLaws.{centre_within}

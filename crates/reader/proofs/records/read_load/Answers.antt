@@ -1,6 +1,5 @@
 -- `reader::records::read_load`. At each `return` a law of FieldLaws turns the tests that led there into the definition's value. `k`
 -- is the place after the chain number was taken, `i` the place after the centre number was.
-use borrow.Author.Rules.{rules}
 use Rattle.reader.specs.Said.{said, Room}
 use Rattle.reader.proofs.FieldLaws.{load_centre, load_chain, load_out, load_order, load_more}
 use Rattle.reader.proofs.NumberLaws.{centre_within, chain_within}

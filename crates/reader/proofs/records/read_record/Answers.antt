@@ -1,6 +1,5 @@
 -- `reader::records::read_record`. At each `return` a law of KindLaws turns the tests of kind and completeness into the definition's
 -- value; the body's length gives each kind's function the bytes that it asks for.
-use borrow.Author.Rules.{rules}
 use Rattle.reader.specs.Said.{said, Room}
 use Rattle.reader.proofs.DueLaws.{window_fits}
 use Rattle.reader.proofs.KindLaws.{holds_size, holds_window, holds_load, holds_leaf, kind_not_due, kind_short, kind_1, kind_2, kind_3, kind_4, kind_5, kind_6}

@@ -2,7 +2,6 @@
 use mathlib.Core.Path.{refl}
 use Rattle.runs.proofs.StartLaws.{left_is}
 use Rattle.runs.proofs.SpentLaws.{advance-refused, advance_granted}
-use borrow.Author.Rules.{rules}
 use Rattle.runs.proofs.advance.advance.Goals as goal
 
 pub advance_in-requires : goal.advance_in-requires

@@ -3,7 +3,6 @@ use mathlib.Core.Path.{refl}
 use native.Mathlib.Omega.{arith}
 use Rattle.runs.proofs.StartLaws.{left_is, room}
 use Rattle.runs.proofs.SpentLaws.{budget_low, done_low, value_room, advance_full, advance_high, advance_stopped, advance_advanced}
-use borrow.Author.Rules.{rules}
 use Rattle.runs.proofs.advance.advance_in.Goals as goal
 
 pub returns-then-no_room : goal.returns-then-no_room

@@ -1,7 +1,6 @@
 -- `value_at` meets its contract, by its one test.
 use mathlib.Core.Path.{◌∙◌}
 use Rattle.runs.proofs.SpentLaws.{value_all, value_some}
-use borrow.Author.Rules.{rules}
 use Rattle.runs.proofs.advance.value_at.Goals as goal
 
 pub returns-then-done-t : goal.returns-then-done-t

@@ -2,7 +2,6 @@
 use mathlib.Core.Path.{refl, sym, ap, ◌∙◌}
 use Rattle.arith.specs.declared.Fits.{Fits}
 use Rattle.runs.proofs.WholeLaws.{prepared, whole_large, room_filled, whole_kept, whole_stopped, whole_exact, last_inside}
-use borrow.Author.Rules.{rules}
 use Rattle.runs.proofs.whole.whole_value.Goals as goal
 
 pub make_table-t-requires : goal.make_table-t-requires

@@ -1,6 +1,5 @@
 -- The chains counted stay at most as many as there are.
 use Prim.Native.Nat.{◌-◌, ◌≤◌}
-use borrow.Author.Rules.{rules}
 use Rattle.states.proofs.draws.draw_chains.Given as goal
 
 abbrev pub invariant-loop-k : goal.invariant-loop-k

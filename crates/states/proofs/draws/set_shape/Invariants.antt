@@ -1,6 +1,5 @@
 -- The numbers passed stay at most 10.
 use Prim.Native.Nat.{◌-◌, ◌≤◌}
-use borrow.Author.Rules.{rules}
 use Rattle.states.proofs.draws.set_shape.Given as goal
 
 abbrev pub invariant-loop-i : goal.invariant-loop-i

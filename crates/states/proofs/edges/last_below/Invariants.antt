@@ -1,6 +1,5 @@
 -- Half the digit is smaller.
-use Prim.Native.Nat.{◌-◌, ◌≤◌}
-use borrow.Author.Rules.{rules}
+use Prim.Native.Nat.{◌≤◌}
 use Rattle.states.proofs.edges.last_below.Given as goal
 
 abbrev pub invariant-loop-digit : goal.invariant-loop-digit

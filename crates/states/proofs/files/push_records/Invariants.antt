@@ -1,6 +1,5 @@
 -- The records counted stay at most 136.
 use Prim.Native.Nat.{◌-◌, ◌≤◌}
-use borrow.Author.Rules.{rules}
 use Rattle.states.proofs.files.push_records.Given as goal
 
 abbrev pub invariant-loop-i : goal.invariant-loop-i

@@ -1,6 +1,5 @@
 -- The nodes counted stay at most 32.
 use Prim.Native.Nat.{◌-◌, ◌≤◌}
-use borrow.Author.Rules.{rules}
 use Rattle.states.proofs.files.push_tree.Given as goal
 
 abbrev pub invariant-loop-i : goal.invariant-loop-i

@@ -1,6 +1,5 @@
 -- The cells passed stay at most as many as wanted.
 use Prim.Native.Nat.{◌-◌, ◌≤◌}
-use borrow.Author.Rules.{rules}
 use Rattle.states.proofs.memory.clear.Given as goal
 
 abbrev pub invariant-loop-i : goal.invariant-loop-i

@@ -1,6 +1,5 @@
 -- The centres counted stay at most as many as there are.
 use Prim.Native.Nat.{◌-◌, ◌≤◌}
-use borrow.Author.Rules.{rules}
 use Rattle.states.proofs.odometer.state_weight.Given as goal
 
 abbrev pub invariant-loop-c : goal.invariant-loop-c

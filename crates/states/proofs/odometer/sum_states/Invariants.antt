@@ -1,6 +1,5 @@
 -- The states counted stay at most as many as are allowed.
 use Prim.Native.Nat.{◌-◌, ◌≤◌}
-use borrow.Author.Rules.{rules}
 use Rattle.states.proofs.odometer.sum_states.Given as goal
 
 abbrev pub invariant-loop-s : goal.invariant-loop-s

@@ -1,6 +1,5 @@
 -- The terms counted stay at most 65536.
 use Prim.Native.Nat.{◌-◌, ◌≤◌}
-use borrow.Author.Rules.{rules}
 use Rattle.states.proofs.table.add_terms.Given as goal
 
 abbrev pub invariant-loop-j : goal.invariant-loop-j

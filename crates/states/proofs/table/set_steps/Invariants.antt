@@ -1,6 +1,5 @@
 -- The chains counted stay at most 8.
 use Prim.Native.Nat.{◌-◌, ◌≤◌}
-use borrow.Author.Rules.{rules}
 use Rattle.states.proofs.table.set_steps.Given as goal
 
 abbrev pub invariant-loop-k : goal.invariant-loop-k

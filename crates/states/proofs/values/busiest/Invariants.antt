@@ -1,6 +1,5 @@
 -- The loads counted stay at most 128.
 use Prim.Native.Nat.{◌-◌, ◌≤◌}
-use borrow.Author.Rules.{rules}
 use Rattle.states.proofs.values.busiest.Given as goal
 
 abbrev pub invariant-loop-i : goal.invariant-loop-i

@@ -1,6 +1,5 @@
 -- The chains counted stay at most 9.
 use Prim.Native.Nat.{◌-◌, ◌≤◌}
-use borrow.Author.Rules.{rules}
 use Rattle.states.proofs.values.find_all.Given as goal
 
 abbrev pub invariant-loop-lower : goal.invariant-loop-lower

@@ -1,5 +1,4 @@
 -- `reader::numbers::Centre::new`. The choice in `centre_of` is by the test that the code makes.
-use borrow.Author.Rules.{rules}
 use Rattle.reader.specs.Numbers.{centre_of}
 use Rattle.reader.proofs.numbers.Centre.new.Goals as goal
 

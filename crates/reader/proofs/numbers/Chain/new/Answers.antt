@@ -1,5 +1,4 @@
 -- `reader::numbers::Chain::new`. The choice in `chain_of` is by the test that the code makes.
-use borrow.Author.Rules.{rules}
 use Rattle.reader.specs.Numbers.{chain_of}
 use Rattle.reader.proofs.numbers.Chain.new.Goals as goal
 
