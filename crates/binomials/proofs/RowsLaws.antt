@@ -15,9 +15,9 @@ use Rattle.binomials.proofs.Entries.{table, table-length, table_at}
 row_length : (n : ℕ) → length (map (binomial n) (from 0 16)) ≡ 16
 row_length n = length-map (from 0 16) (binomial n) ∙ length_from 0 16
 
-pub rows-length : length rows ≡ 1936
+pub rows_length : length rows ≡ 1936
 unfolding rows
-rows-length = length_flat (λ n. map (binomial n) (from 0 16)) 16 row_length (from 0 121) ∙ ap (λ m. m * 16) (length_from 0 121)
+rows_length = length_flat (λ n. map (binomial n) (from 0 16)) 16 row_length (from 0 121) ∙ ap (λ m. m * 16) (length_from 0 121)
 
 pub rows_at : (n k : ℕ) → n ≤ 120 → k ≤ 15 → get_or rows (n * 16 + k) 0 ≡ binomial n k
 unfolding rows
@@ -31,7 +31,7 @@ rows_at n k hn hk =
     ∙ (λ t. binomial (e t) (d t))
 
 pub table-rows : table ≡ rows
-table-rows = ext_get_or 0 table rows (table-length ∙ sym rows-length) (λ j h.
+table-rows = ext_get_or 0 table rows (table-length ∙ sym rows_length) (λ j h.
     let n : j / 16 ≤ 120 = omega (arith, table-length) in
     let k : j % 16 ≤ 15 = omega arith in
     let e : j ≡ j / 16 * 16 + j % 16 = sym (div-add-mod' j 16) in

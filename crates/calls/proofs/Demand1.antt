@@ -65,7 +65,7 @@ pub record FileAccepted (file : List ℕ) (m : Model) : Type 0 where
       (λ number. record { answer = record { refusal = number; place = 0 }; area = area })
       (record { answer = record { refusal = 0; place = 0 }; area = filled_by m windows ++ drop (cells_in m windows) area }))
   -- advance: 10 to 13, with the area untouched
-  pub advance-refused : (lower done budget : ℕ) (area : List ℕ) (number : ℕ) → 1 ≤ number
+  pub advance_refused : (lower done budget : ℕ) (area : List ℕ) (number : ℕ) → 1 ≤ number
       → (let windows = run_windows m lower in
       first_of ((10, ltb m.chains lower) ∷ (11, window_zero m lower) ∷ (12, no_room (cells_in m windows) area) ∷ (13, ltb (pairs_in m windows) done) ∷ []) (λ n. n) 0 ≡ number)
       → tell advance_numbers (advance file lower done budget area) ≡ record { answer = record { refusal = number; place = 0; done = 0; value = 0 }; area = area }
@@ -119,7 +119,7 @@ unfolding no_sheet full_sheet part_numbers
 file_accepted file e = record {
   planned = plan_all file e;
   started = start_all file e;
-  advance-refused = λ lower done budget area number h d. advance_all file e lower done budget area ∙ first_refused _ _ _ number h d;
+  advance_refused = λ lower done budget area number h d. advance_all file e lower done budget area ∙ first_refused _ _ _ number h d;
   advanced = λ lower done budget area cells pairs p small fits low.
       let q = planned file lower cells pairs p in
       advance_spending file lower (model_of file) (windows_for file lower) q.asked done area

@@ -1,6 +1,6 @@
 -- Demand 2. The value is exact. "A run is a start and then advances to the last pair, with nothing altered between. Its value is the sum, over every
 -- way to place the windowed messages on their routes, of the product-form weight of report TR-165, exactly. 'Too large' (14) is given by a run exactly
--- when that sum is 2^64 or more, for every tree that fits the area." The statement is the record Demand2 and the type of demand-2.
+-- when that sum is 2^64 or more, for every tree that fits the area." The statement is the record Demand2 and the type of demand_2.
 use Prim.Native.Nat.{ℕ, zero, suc, ◌+◌, ◌-◌, ◌^◌, ◌≤◌, ◌<◌}
 use mathlib.Core.Path.{◌≡◌, refl, sym, ap, subst, ◌∙◌}
 use mathlib.Core.Bool.{Bool, true, false, ◌&&◌, true≢false}

@@ -1,7 +1,7 @@
 -- Demand 3. Idle slots. "Take one model whose start is accepted, then spend any budgets, zeros too, with model, area, lowered channel and number done handed
 -- back untouched. After budgets that add up to b, the area holds exactly what the first b index pairs of the listed order leave (all of them, if there are
 -- fewer); only a pair that would reach 2^64 stops it earlier. The whole number of pairs is known from routes, windows and tree before any load is looked at,
--- and it is never above that of the plain sequential method." The statement is the record Demand3 and the type of demand-3.
+-- and it is never above that of the plain sequential method." The statement is the record Demand3 and the type of demand_3.
 use Prim.Native.Nat.{ℕ, ◌+◌, ◌^◌, ◌≤◌, ◌<◌}
 use mathlib.Core.Path.{◌≡◌, refl, sym, ap, subst, ◌∙◌}
 use mathlib.Core.Bool.{Bool, true, false, ◌&&◌}

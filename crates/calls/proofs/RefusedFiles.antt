@@ -1,5 +1,5 @@
 -- Refused files, one table: for each refusal number at least one file, computed from its bytes, with its place, in every call that gives it. For 1 to 9 a
--- line computes what the reading says, and demand-1 carries it to every call, number and area. Document 01's own are among them: the empty file, one byte
+-- line computes what the reading says, and demand_1 carries it to every call, number and area. Document 01's own are among them: the empty file, one byte
 -- more, the second leaf naming centre 1, the last join left out, B in an area of 10 cells, and both loads 65535.
 use Prim.Native.Nat.{ℕ}
 use mathlib.Core.Path.{◌≡◌, refl}

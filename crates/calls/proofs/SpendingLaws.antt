@@ -1,5 +1,5 @@
 -- What is said of pairs spent (specs/Spending) holds of every spending: read off the law of a run under a limit (went), and off the law that
--- a pair that has stopped a run stops it again (spend-again).
+-- a pair that has stopped a run stops it again (spend_again).
 use Prim.Native.Nat.{ℕ, zero, suc, ◌+◌, ◌-◌, ◌^◌, ◌≤◌, ◌<◌, min}
 use mathlib.Core.Path.{◌≡◌, refl, sym, ap, subst, ◌∙◌}
 use mathlib.Core.Bool.{Bool, true, false, ◌&&◌, true≢false}

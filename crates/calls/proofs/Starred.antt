@@ -91,17 +91,17 @@ advance_tells done value = record { refusal = 0; place = 0; done = done; value =
 -- ---- the table
 
 pub record Starred : Type 0 where
-  pub B-value : states_of B ≡ 14
+  pub B_value : states_of B ≡ 14
   pub B_run : run_of 11 B 0 6 ≡ advance_tells 6 14
-  pub B-cells_pairs : plan_numbers (plan B 0) ≡ plan_tells 11 6
+  pub B_cells_pairs : plan_numbers (plan B 0) ≡ plan_tells 11 6
   pub B_plain : plain_of B ≡ 18
-  pub B-lowered_1 : run_of 11 B 1 6 ≡ advance_tells 4 3
-  pub B-lowered_2 : run_of 11 B 2 6 ≡ advance_tells 3 4
-  pub B-sheet : (sheet B (replicate 11 7)).answer
+  pub B_lowered_1 : run_of 11 B 1 6 ≡ advance_tells 4 3
+  pub B_lowered_2 : run_of 11 B 2 6 ≡ advance_tells 3 4
+  pub B_sheet : (sheet B (replicate 11 7)).answer
       ≡ record { refusal = 0; place = 0; value = 14; pairs = 6; cells = 11; chains = 2; numerators = 3 ∷ 4 ∷ 0 ∷ 0 ∷ 0 ∷ 0 ∷ 0 ∷ 0 ∷ []; busiest = 1 }
-  pub B-sheet_area : (sheet B (replicate 12 7)).area ≡ replicate 11 0 ++ (7 ∷ [])
-  pub B-started : start_numbers (started 12 B 0).answer ≡ start_tells 0
-  pub B-started_area : (started 12 B 0).area ≡ 1 ∷ 2 ∷ 1 ∷ 4 ∷ 1 ∷ 3 ∷ 0 ∷ 0 ∷ 1 ∷ 1 ∷ 0 ∷ 7 ∷ []
+  pub B_sheet_area : (sheet B (replicate 12 7)).area ≡ replicate 11 0 ++ (7 ∷ [])
+  pub B_started : start_numbers (started 12 B 0).answer ≡ start_tells 0
+  pub B_started_area : (started 12 B 0).area ≡ 1 ∷ 2 ∷ 1 ∷ 4 ∷ 1 ∷ 3 ∷ 0 ∷ 0 ∷ 1 ∷ 1 ∷ 0 ∷ 7 ∷ []
   pub B_area_0 : (advanced 12 B 0 0).area ≡ 1 ∷ 2 ∷ 1 ∷ 4 ∷ 1 ∷ 3 ∷ 0 ∷ 0 ∷ 1 ∷ 1 ∷ 0 ∷ 7 ∷ []
   pub B_area_1 : (advanced 12 B 0 1).area ≡ 1 ∷ 2 ∷ 1 ∷ 4 ∷ 1 ∷ 3 ∷ 3 ∷ 0 ∷ 1 ∷ 1 ∷ 0 ∷ 7 ∷ []
   pub B_area_3 : (advanced 12 B 0 3).area ≡ 1 ∷ 2 ∷ 1 ∷ 4 ∷ 1 ∷ 3 ∷ 4 ∷ 6 ∷ 1 ∷ 1 ∷ 0 ∷ 7 ∷ []
@@ -109,23 +109,23 @@ pub record Starred : Type 0 where
   pub B_tree_part : tree_part B ≡ 4 ∷ 1 ∷ 4 ∷ 2 ∷ 5 ∷ 4 ∷ 3 ∷ 5 ∷ []
   pub B_tree_place : part_numbers B ≡ record { from = 29; length = 8 }
   pub other_run : run_of 13 other 0 8 ≡ advance_tells 8 14
-  pub other-cells_pairs : plan_numbers (plan other 0) ≡ plan_tells 13 8
+  pub other_cells_pairs : plan_numbers (plan other 0) ≡ plan_tells 13 8
   pub two_run : run_of 7 two 0 3 ≡ advance_tells 3 7
-  pub two-lowered : run_of 7 two 1 3 ≡ advance_tells 2 3
-  pub two-cells_pairs : plan_numbers (plan two 0) ≡ plan_tells 7 3
-  pub two-sheet : (sheet two (replicate 7 7)).answer
+  pub two_lowered : run_of 7 two 1 3 ≡ advance_tells 2 3
+  pub two_cells_pairs : plan_numbers (plan two 0) ≡ plan_tells 7 3
+  pub two_sheet : (sheet two (replicate 7 7)).answer
       ≡ record { refusal = 0; place = 0; value = 7; pairs = 3; cells = 7; chains = 1; numerators = 3 ∷ 0 ∷ 0 ∷ 0 ∷ 0 ∷ 0 ∷ 0 ∷ 0 ∷ []; busiest = 2 }
   pub both_run : run_of 1 both 0 0 ≡ advance_tells 0 36
-  pub both-lowered_1 : run_of 1 both 1 0 ≡ advance_tells 0 12
-  pub both-lowered_2 : run_of 1 both 2 0 ≡ advance_tells 0 4
+  pub both_lowered_1 : run_of 1 both 1 0 ≡ advance_tells 0 12
+  pub both_lowered_2 : run_of 1 both 2 0 ≡ advance_tells 0 4
   pub idle_run : run_of 1 (single 0 0 9) 0 0 ≡ advance_tells 0 1
   pub idle_cells_pairs : plan_numbers (plan (single 0 0 9) 0) ≡ plan_tells 1 0
   pub idle_lowered : plan_numbers (plan (single 0 0 9) 1) ≡ record { refusal = 11; place = 0; cells = 0; pairs = 0 }
   pub idle_rate : (sheet (single 0 0 9) (7 ∷ [])).answer
       ≡ record { refusal = 0; place = 0; value = 1; pairs = 0; cells = 1; chains = 1; numerators = replicate 8 0; busiest = 1 }
   pub once_run : run_of 3 once 0 1 ≡ advance_tells 1 125
-  pub once-lowered : run_of 3 once 1 1 ≡ advance_tells 1 25
-  pub once-cells_pairs : plan_numbers (plan once 0) ≡ plan_tells 3 1
+  pub once_lowered : run_of 3 once 1 1 ≡ advance_tells 1 25
+  pub once_cells_pairs : plan_numbers (plan once 0) ≡ plan_tells 3 1
   pub large_window_4 : run_of 1 (single 4 255 255) 0 0 ≡ advance_tells 0 18445618199572250625
   pub large_window_5 : start_numbers (started 1 (single 5 255 255) 0).answer ≡ start_tells 14
   pub large_window_5_area : (started 1 (single 5 255 255) 0).area ≡ 7 ∷ []
@@ -144,16 +144,16 @@ unfolding flat_map zip_with from by_number some all when those among sum_over sp
     full_value numerator load_sum largest first_with busiest no_sheet numerators full_sheet sheet_of cleared sheet_in sheet
     front B other two both once single started advanced run_of states_of plain_of
 starred = record {
-  B-value = refl;
+  B_value = refl;
   B_run = refl;
-  B-cells_pairs = refl;
+  B_cells_pairs = refl;
   B_plain = refl;
-  B-lowered_1 = refl;
-  B-lowered_2 = refl;
-  B-sheet = refl;
-  B-sheet_area = refl;
-  B-started = refl;
-  B-started_area = refl;
+  B_lowered_1 = refl;
+  B_lowered_2 = refl;
+  B_sheet = refl;
+  B_sheet_area = refl;
+  B_started = refl;
+  B_started_area = refl;
   B_area_0 = refl;
   B_area_1 = refl;
   B_area_3 = refl;
@@ -161,21 +161,21 @@ starred = record {
   B_tree_part = refl;
   B_tree_place = refl;
   other_run = refl;
-  other-cells_pairs = refl;
+  other_cells_pairs = refl;
   two_run = refl;
-  two-lowered = refl;
-  two-cells_pairs = refl;
-  two-sheet = refl;
+  two_lowered = refl;
+  two_cells_pairs = refl;
+  two_sheet = refl;
   both_run = refl;
-  both-lowered_1 = refl;
-  both-lowered_2 = refl;
+  both_lowered_1 = refl;
+  both_lowered_2 = refl;
   idle_run = refl;
   idle_cells_pairs = refl;
   idle_lowered = refl;
   idle_rate = refl;
   once_run = refl;
-  once-lowered = refl;
-  once-cells_pairs = refl;
+  once_lowered = refl;
+  once_cells_pairs = refl;
   large_window_4 = refl;
   large_window_5 = refl;
   large_window_5_area = refl;

@@ -91,12 +91,12 @@ pub record Building (windows lefts rights owns L R : List ℕ) (u : Used) (k : �
   pub rows_used : u.rows ≤ 3 * k
   pub count_low : u.count ≤ 16 ^ k
   pub loops_length : length L ≡ 40
-  pub rows-length : length R ≡ 24
+  pub rows_length : length R ≡ 24
   pub whole : add_chains (flat u L R) (drop k windows) (drop k lefts) (drop k rights) (drop k owns) ≡ add_chains nothing windows lefts rights owns
 
 module _ (windows lefts rights owns : List ℕ) (chains : Chains windows lefts rights owns) where
   pub building_none : (L R : List ℕ) → length L ≡ 40 → length R ≡ 24 → Building windows lefts rights owns L R (record { loops = 0; rows = 0; count = 1 }) 0
-  building_none L R h k = record { most = omega arith; loops_used = omega arith; rows_used = omega arith; count_low = omega arith; loops_length = h; rows-length = k; whole = refl }
+  building_none L R h k = record { most = omega arith; loops_used = omega arith; rows_used = omega arith; count_low = omega arith; loops_length = h; rows_length = k; whole = refl }
 
   module _ (L R : List ℕ) (u : Used) (k : ℕ) (b : Building windows lefts rights owns L R u k) (h : k < length windows) where
     count_up : u.count * (get_or windows k 0 + 1) ≤ 16 ^ (k + 1)
@@ -109,7 +109,7 @@ module _ (windows lefts rights owns : List ℕ) (chains : Chains windows lefts r
     building_room =
         let q : k + 1 ≤ 8 = omega (arith, chains.few) in
         let p : 16 ^ (k + 1) ≤ 16 ^ 8 = pow-le-pow_right {n = 16} (omega arith) q in
-        record { loops_room = omega (arith, b.loops_used, chains.few, b.loops_length); rows_room = omega (arith, b.rows_used, chains.few, b.rows-length); window = chains.messages k; count_room = omega (arith, count_up, p) }
+        record { loops_room = omega (arith, b.loops_used, chains.few, b.loops_length); rows_room = omega (arith, b.rows_used, chains.few, b.rows_length); window = chains.messages k; count_room = omega (arith, count_up, p) }
 
     pub building_more : (L' R' : List ℕ) (v : Used) → length L' ≡ length L → length R' ≡ length R
         → (flat v L' R' ≡ add_chain (flat u L R) (get_or windows k 0) (get_or lefts k 0) (get_or rights k 0) (get_or owns k 0)) × Grown u v (get_or windows k 0) → Building windows lefts rights owns L' R' v (k + 1)
@@ -120,7 +120,7 @@ module _ (windows lefts rights owns : List ℕ) (chains : Chains windows lefts r
       rows_used = omega (arith, b.rows_used, e.1.rows);
       count_low = omega (arith, count_up, e.1.count);
       loops_length = el ∙ b.loops_length;
-      rows-length = er ∙ b.rows-length;
+      rows_length = er ∙ b.rows_length;
       whole = ap (λ f. add_chains f (drop (k + 1) windows) (drop (k + 1) lefts) (drop (k + 1) rights) (drop (k + 1) owns)) e.0 ∙ sym one_chain ∙ b.whole;
     }
       where

@@ -1,5 +1,5 @@
--- The centres in the tree, listed by their flags: setting a flag adds that centre (inTree-set), and where exactly the first n flags are
--- set, they are the first n centres (inTree-all).
+-- The centres in the tree, listed by their flags: setting a flag adds that centre (in_tree-set), and where exactly the first n flags are
+-- set, they are the first n centres (in_tree_all).
 use Prim.Native.Nat.{ℕ, zero, suc, ◌+◌, ◌<◌, ◌≤◌}
 use mathlib.Core.Path.{◌≡◌, refl, sym, ap}
 use mathlib.Core.List.Permᴰ

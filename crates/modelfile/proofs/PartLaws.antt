@@ -1,5 +1,5 @@
 -- The tree part: empty where the file is refused, and only there, since an accepted file has a first leaf of two bytes before its
--- end record (first-inside). That the first leaf's place lies so far back is kept by every step.
+-- end record (first_inside). That the first leaf's place lies so far back is kept by every step.
 use Prim.Native.Nat.{ℕ, ◌+◌, ◌-◌, ◌≤◌}
 use mathlib.Core.Path.{◌≡◌, refl, ap}
 use mathlib.Core.Bool.{Bool, true, false}

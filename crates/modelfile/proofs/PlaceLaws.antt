@@ -1,5 +1,5 @@
 -- Reading by places, as a loop does: the reading from a place is one record, and then the reading from the place after it (read_one);
--- a record that goes on lies in the file (record-inside), and at the file's end the reading is refused 1 (read-over).
+-- a record that goes on lies in the file (record_inside), and at the file's end the reading is refused 1 (read_over).
 use Prim.Native.Nat.{ℕ, zero, suc, ◌+◌, ◌<◌, ◌≤◌}
 use mathlib.Core.Path.{◌≡◌, refl, ap, ◌∙◌}
 use mathlib.Core.List.{List, [], ◌∷◌}

@@ -1,5 +1,5 @@
 -- What one record does: it is due (Due), and then it is one of five steps from place to place (Taken), the end, or a refusal 1 to 9
--- (Outcome), each with what its tests have shown. One law, record-outcome, follows the tests once; all other laws go by these cases.
+-- (Outcome), each with what its tests have shown. One law, record_outcome, follows the tests once; all other laws go by these cases.
 use Prim.Native.Nat.{ℕ, zero, suc, ◌+◌, ◌-◌, ◌<◌, ◌≤◌}
 use mathlib.Core.Path.{◌≡◌, refl, sym, ap, subst, ◌∙◌}
 use mathlib.Core.Bool.{Bool, true, false, not, ◌&&◌, ◌||◌, true≢false}

@@ -1,5 +1,5 @@
 -- From one record to the whole file: what every step keeps holds where an accepted file ends (reached), and a refusal's number and
--- place lie in their ranges (refused-range). By induction over the bytes, and at each record by cases on its outcome.
+-- place lie in their ranges (refused_range). By induction over the bytes, and at each record by cases on its outcome.
 use Prim.Native.Nat.{ℕ, zero, suc, ◌+◌, ◌≤◌}
 use mathlib.Core.Path.{◌≡◌, sym, subst}
 use mathlib.Core.List.{List, [], ◌∷◌}

@@ -1,5 +1,5 @@
--- Which chains a list of centres touches. Where a vector has messages of another chain the value is 0 (G-off); where it has not, the value
--- is at least 1 (G-on), so what lies under a node never exceeds the value of all centres (bound).
+-- Which chains a list of centres touches. Where a vector has messages of another chain the value is 0 (G_off); where it has not, the value
+-- is at least 1 (G_on), so what lies under a node never exceeds the value of all centres (bound).
 use Prim.Native.Nat.{ℕ, zero, suc, ◌*◌, ◌≤◌}
 use mathlib.Core.Path.{◌≡◌, refl, sym, ap, subst, ◌∙◌}
 use mathlib.Core.Bool.{Bool, true, false, ◌||◌, true≢false}

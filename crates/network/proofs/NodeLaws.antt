@@ -1,5 +1,5 @@
 -- The centres under a node, and what coverage says of them: which chains they touch (cover-under), and that a join's value is the sum over
--- its pairs (join-cell).
+-- its pairs (join_cell).
 use Prim.Native.Nat.{ℕ, zero, suc, ◌+◌, ◌*◌, ◌≤◌, ◌<◌}
 use mathlib.Core.Path.{◌≡◌, refl, sym, ap, subst, ◌∙◌}
 use mathlib.Core.Bool.{Bool, true, false, not, ◌||◌}

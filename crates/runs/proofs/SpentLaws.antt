@@ -114,9 +114,9 @@ module _ (m : Model) (windows : List ℕ) (t : Table) (p : Prepared m windows t)
 -- ---- the call
 
 module _ (file : List ℕ) (lower done budget : ℕ) (area : List ℕ) (r : Run) (w : RunFor (ask file lower) r) where
-  pub advance-refused : {number place : ℕ} → r.asked ≡ Asked.Refused number place → advance file lower done budget area ≡ no_advance number place area
+  pub advance_refused : {number place : ℕ} → r.asked ≡ Asked.Refused number place → advance file lower done budget area ≡ no_advance number place area
   unfolding advance asked_of
-  advance-refused e = rw (← w.answer, e)
+  advance_refused e = rw (← w.answer, e)
 
   pub advance_granted : r.asked ≡ Asked.Granted → advance file lower done budget area ≡ advance_in r.model (windows_in r.model r.windows) done budget area
   unfolding advance asked_of

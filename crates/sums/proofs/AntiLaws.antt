@@ -1,6 +1,6 @@
 -- Sums over the ways to split a number, or a vector, in two: one small family of laws (extensionality, adding, scaling,
 -- exchange, association, swapping), each by one induction, so that nobody else takes a sum apart. `anti` and `anti_v` are the sums
--- over `splits` and `vector_splits` (anti-sum, antiV-sum), in the form that inductions want.
+-- over `splits` and `vector_splits` (anti_sum, anti_v_sum), in the form that inductions want.
 use Prim.Native.Nat.{ℕ, zero, suc, ◌+◌, ◌*◌, ◌≤◌}
 use mathlib.Core.Path.{◌≡◌, refl, sym, ap, ◌∙◌}
 use mathlib.Core.List.{List, [], ◌∷◌, map}
