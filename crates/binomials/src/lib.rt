@@ -22,8 +22,8 @@ pub fn rows() -> [u64; 1936]
 }
 
 pub fn binomial_in(rows: &[u64], n: usize, k: usize) -> u64
-    requires rows_value { rows.now ≡ rows_of }
-    requires n_bound { (n ≤ 120) × (k ≤ 15) }
+    requires rows_are { rows.now ≡ rows_of }
+    requires in_table { (n ≤ 120) × (k ≤ 15) }
     ensures { result ≡ binomialOf n k }
 {
     rows[n * 16 + k]

@@ -70,9 +70,9 @@ pub fn leaf_too_large(rows: &[u64], loads: &[u64], ch: Chains, n: Node) -> bool
 }
 
 pub fn write_leaf(rows: &[u64], loads: &[u64], ch: Chains, n: Node, area: &mut [u64])
-    requires rows_value { (rows.now ≡ rows_of) × LeafIn loads.now ch n }
-    requires cells_in_bounds { n.base + n.cells ≤ length area.old }
-    requires n_value { some too_large (leaf_cells loads.now ch n) ≡ false }
+    requires rows_are { (rows.now ≡ rows_of) × LeafIn loads.now ch n }
+    requires room { n.base + n.cells ≤ length area.old }
+    requires none_large { some too_large (leaf_cells loads.now ch n) ≡ false }
     ensures { area.new ≡ put n.base (leaf_cells loads.now ch n) area.old }
 {
     let counts = n.counts;

@@ -38,9 +38,9 @@ fn node_too_large(rows: &[u64], loads: &[u64], ch: Chains, n: Node) -> bool
 }
 
 fn write_node(rows: &[u64], loads: &[u64], ch: Chains, n: Node, area: &mut [u64])
-    requires rows_value { (rows.now ≡ rows_of) × NodeIn loads.now ch n }
-    requires cells_in_bounds { n.base + n.cells ≤ length area.old }
-    requires n_value { some too_large (node_cells loads.now ch n) ≡ false }
+    requires rows_are { (rows.now ≡ rows_of) × NodeIn loads.now ch n }
+    requires room { n.base + n.cells ≤ length area.old }
+    requires none_large { some too_large (node_cells loads.now ch n) ≡ false }
     ensures { area.new ≡ put n.base (node_cells loads.now ch n) area.old }
 {
     if n.centre == 0 {
@@ -76,9 +76,9 @@ pub fn some_leaf_too_large(rows: &[u64], m: Model, windows: [usize; 8], t: Table
 
 // The cells past the model's stay as they are.
 pub fn fill(rows: &[u64], m: Model, windows: [usize; 8], t: Table, area: &mut [u64])
-    requires rows_value { (rows.now ≡ rows_of) × Prepared m windows t }
-    requires windows_in_bounds { cells_in m (windows_in m windows) ≤ length area.old }
-    requires windows_value { some too_large (filled_by m (windows_in m windows)) ≡ false }
+    requires rows_are { (rows.now ≡ rows_of) × Prepared m windows t }
+    requires room { cells_in m (windows_in m windows) ≤ length area.old }
+    requires none_large { some too_large (filled_by m (windows_in m windows)) ≡ false }
     ensures { area.new ≡ filled_by m (windows_in m windows) ++ drop (cells_in m (windows_in m windows)) area.old }
 {
     let loads = m.loads;

@@ -138,7 +138,7 @@ fn walk_cell(
     q: Quota,
 ) -> Quota
     requires inside { Inside (length area.old) join rows.now l r t }
-    requires count_value { count ≡ length (places rows.now l r) }
+    requires counted { count ≡ length (places rows.now l r) }
     ensures { state result area.new ≡ walk (cell_pairs join rows.now l r t) (state q area.old) }
 {
     if q.over {
@@ -193,7 +193,7 @@ fn times(count: usize, p: usize, len: usize, n: usize) -> usize
 
 // A loop's i-th turn.
 fn turn_at(one: Loop, len: usize, l: usize, r: usize, t: usize, count: usize, i: usize) -> Turn
-    requires i_lt_count { i < one.count }
+    requires turn_left { i < one.count }
     requires numbers { Numbers (turn_at one len l r t count i) }
     ensures { result ≡ turn_at one len l r t count i }
 {

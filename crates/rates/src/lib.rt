@@ -25,7 +25,7 @@ pub struct AllNumerators {
 
 // "A chain with window 0 has numerator 0 and isn't run."
 fn numerator(rows: &[u64], m: Model, chain: u64, area: &mut [u64]) -> Fits
-    requires rows_value { rows.now ≡ rows_of }
+    requires rows_are { rows.now ≡ rows_of }
     requires guaranteed { Guaranteed m × (1 ≤ chain) × (cells_in m (windows_of m) ≤ length area.old) }
     ensures value { result ≡ capped (numerator m chain) }
     ensures kept { Kept (cells_in m (windows_of m)) area.old area.new }
@@ -44,7 +44,7 @@ fn numerator(rows: &[u64], m: Model, chain: u64, area: &mut [u64]) -> Fits
 
 // Up to the first that is too large.
 pub fn numerators(rows: &[u64], m: Model, area: &mut [u64]) -> AllNumerators
-    requires rows_value { rows.now ≡ rows_of }
+    requires rows_are { rows.now ≡ rows_of }
     requires guaranteed { Guaranteed m × (cells_in m (windows_of m) ≤ length area.old) }
     ensures numbered { Numbered m result }
     ensures kept { Kept (cells_in m (windows_of m)) area.old area.new }

@@ -32,8 +32,8 @@ pub struct Full {
 // The runs; `cells` and `pairs` are the full model's.
 fn run(m: Model, cells: u64, pairs: u64, area: &mut [u64]) -> SheetAnswer
     requires guaranteed { Guaranteed m × (cells_in m (windows_of m) ≤ length area.old) }
-    requires cells_value { (cells ≡ cells_in m (windows_of m)) × (pairs ≡ pairs_in m (windows_of m)) }
-    ensures value { result ≡ sheet_of m }
+    requires sizes { (cells ≡ cells_in m (windows_of m)) × (pairs ≡ pairs_in m (windows_of m)) }
+    ensures answer { result ≡ sheet_of m }
     ensures kept { Kept (cells_in m (windows_of m)) area.old area.new }
 {
     let windows = m.windows;
@@ -54,8 +54,8 @@ fn run(m: Model, cells: u64, pairs: u64, area: &mut [u64]) -> SheetAnswer
 
 fn run_and_clear(m: Model, area: &mut [u64]) -> SheetAnswer
     requires { Guaranteed m }
-    ensures value { result ≡ (sheet_in m (windows_of m) area.old).answer }
-    ensures area_after { area.new ≡ (sheet_in m (windows_of m) area.old).area }
+    ensures answer { result ≡ (sheet_in m (windows_of m) area.old).answer }
+    ensures left { area.new ≡ (sheet_in m (windows_of m) area.old).area }
 {
     let windows = m.windows;
     let t = make_table(m, windows);

@@ -45,7 +45,7 @@ fn read_size(rest: &[u8], at: usize, m: Model) -> Said
 
 fn read_window(rest: &[u8], at: usize, m: Model) -> Said
     requires holds { Holds 3 rest.now at }
-    requires given_bound { m.given < 8 }
+    requires window_left { m.given < 8 }
     ensures { (said m at result ≡ read_window rest.now at m) × Room m result }
 {
     if wide(rest[1]) != m.given + 1 {

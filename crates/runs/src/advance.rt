@@ -34,8 +34,8 @@ fn advance_in(
     area: &mut [u64],
 ) -> AdvanceAnswer
     requires { Prepared m windows t }
-    ensures value { result ≡ (advance_in m (windows_in m windows) done budget area.old).answer }
-    ensures area_after { area.new ≡ (advance_in m (windows_in m windows) done budget area.old).area }
+    ensures answer { result ≡ (advance_in m (windows_in m windows) done budget area.old).answer }
+    ensures left { area.new ≡ (advance_in m (windows_in m windows) done budget area.old).area }
 {
     if no_room(t.cells, area.len()) {
         return AdvanceAnswer::Refused {

@@ -36,8 +36,8 @@ pub fn last_cell(area: &[u64], cells: usize) -> u64
 
 fn start_in(m: Model, windows: [usize; 8], t: Table, area: &mut [u64]) -> StartAnswer
     requires { Prepared m windows t }
-    ensures value { result ≡ (start_in m (windows_in m windows) area.old).answer }
-    ensures area_after { area.new ≡ (start_in m (windows_in m windows) area.old).area }
+    ensures answer { result ≡ (start_in m (windows_in m windows) area.old).answer }
+    ensures left { area.new ≡ (start_in m (windows_in m windows) area.old).area }
 {
     if no_room(t.cells, area.len()) {
         return StartAnswer::Refused {

@@ -17,11 +17,11 @@ use spends::spend;
 
 // The cells past the model's stay as they are.
 pub fn whole_value(rows: &[u64], m: Model, windows: [usize; 8], area: &mut [u64]) -> Fits
-    requires rows_value { rows.now ≡ rows_of }
+    requires rows_are { rows.now ≡ rows_of }
     requires guaranteed { Guaranteed m × (length windows ≡ 8) × ((k : ℕ) → get_or windows k 0 ≤ 15) }
-    requires windows_in_bounds { cells_in m (take m.chains windows) ≤ length area.old }
+    requires room { cells_in m (take m.chains windows) ≤ length area.old }
     ensures value { result ≡ capped (value (centres_of m) (take m.chains windows)) }
-    ensures area_len_unchanged { (length area.new ≡ length area.old) × (drop (cells_in m (take m.chains windows)) area.new ≡ drop (cells_in m (take m.chains windows)) area.old) }
+    ensures rest_kept { (length area.new ≡ length area.old) × (drop (cells_in m (take m.chains windows)) area.new ≡ drop (cells_in m (take m.chains windows)) area.old) }
 {
     let t = make_table(m, windows);
     if some_leaf_too_large(rows, m, windows, t) {

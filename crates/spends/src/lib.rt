@@ -74,7 +74,7 @@ fn node_pairs(ch: Chains, left: Node, right: Node, own: Node, area: &mut [u64], 
 // The pairs of the table's joins, in order, until the walk ends.
 fn table_pairs(m: Model, windows: [usize; 8], t: Table, area: &mut [u64], q: Quota) -> Quota
     requires prepared { Prepared m windows t }
-    requires windows_in_bounds { cells_in m (windows_in m windows) ≤ length area.old }
+    requires room { cells_in m (windows_in m windows) ≤ length area.old }
     ensures { state result area.new ≡ walk (pairs_listed m (windows_in m windows)) (state q area.old) }
 {
     let ch = Chains {
@@ -99,7 +99,7 @@ fn table_pairs(m: Model, windows: [usize; 8], t: Table, area: &mut [u64], q: Quo
 // The pairs of all joins, in order. Without a budget they are only skipped, all at once.
 pub fn spend(m: Model, windows: [usize; 8], t: Table, area: &mut [u64], q: Quota) -> Quota
     requires prepared { Prepared m windows t }
-    requires windows_in_bounds { cells_in m (windows_in m windows) ≤ length area.old }
+    requires room { cells_in m (windows_in m windows) ≤ length area.old }
     ensures { state result area.new ≡ walk (pairs_listed m (windows_in m windows)) (state q area.old) }
 {
     if q.over {

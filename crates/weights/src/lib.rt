@@ -36,8 +36,8 @@ fn times_power(acc: u64, load: u64, n: usize) -> Fits
 // One chain's part of a weight: n messages, where those of the chains before are there already. The binomial comes last: it is at
 // least 1, so a power that is too large settles it.
 fn times_chain(rows: &[u64], acc: u64, load: u64, before: usize, n: usize) -> Fits
-    requires rows_value { rows.now ≡ rows_of }
-    requires n_bound { (before + n ≤ 120) × (n ≤ 15) }
+    requires rows_are { rows.now ≡ rows_of }
+    requires in_table { (before + n ≤ 120) × (n ≤ 15) }
     ensures { result ≡ capped (acc * load ^ n * binomialOf (before + n) n) }
 {
     match times_power(acc, load, n) {
@@ -47,9 +47,9 @@ fn times_chain(rows: &[u64], acc: u64, load: u64, before: usize, n: usize) -> Fi
 }
 
 pub fn weight_of(rows: &[u64], loads: &[u64], index: &[usize]) -> Fits
-    requires rows_value { rows.now ≡ rows_of }
-    requires loads_len_bound { (length loads.now ≤ 8) × AtMost 15 index.now }
-    requires index_value { fits (map visit loads.now) index.now ≡ true }
+    requires rows_are { rows.now ≡ rows_of }
+    requires few_chains { (length loads.now ≤ 8) × AtMost 15 index.now }
+    requires on_route { fits (map visit loads.now) index.now ≡ true }
     ensures { result ≡ capped (weight loads.now index.now) }
 {
     let mut acc: u64 = 1;
@@ -73,7 +73,7 @@ pub fn weight_of(rows: &[u64], loads: &[u64], index: &[usize]) -> Fits
 
 // Whether some cell of a leaf is too large. No index has a larger weight than the highest.
 pub fn some_too_large(rows: &[u64], loads: &[u64], lows: &[usize], highs: &[usize]) -> bool
-    requires rows_value { rows.now ≡ rows_of }
+    requires rows_are { rows.now ≡ rows_of }
     requires leaf_ends { LeafEnds loads.now lows.now highs.now }
     ensures { result ≡ some (λ n. leb (2 ^ 64) n) (map (weight loads.now) (between lows.now highs.now)) }
 {
@@ -105,10 +105,10 @@ fn fill_last(
     out: &mut [u64],
     at: usize,
 ) -> usize
-    requires rows_value { (rows.now ≡ rows_of) × (k + 1 ≡ length loads.now) }
+    requires rows_are { (rows.now ≡ rows_of) × (k + 1 ≡ length loads.now) }
     requires to_fill { ToFill loads.now lows.now highs.now k acc before at (length out.old) }
-    ensures value { result ≡ at + length (between (drop k lows.now) (drop k highs.now)) }
-    ensures out_after { take result out.new ≡ take at out.old ++ cells_from acc before (drop k loads.now) (drop k lows.now) (drop k highs.now) }
+    ensures next_place { result ≡ at + length (between (drop k lows.now) (drop k highs.now)) }
+    ensures written { take result out.new ≡ take at out.old ++ cells_from acc before (drop k loads.now) (drop k lows.now) (drop k highs.now) }
 {
     let load = loads[k];
     let high = highs[k];
@@ -140,10 +140,10 @@ fn fill(
     out: &mut [u64],
     at: usize,
 ) -> usize
-    requires rows_value { (rows.now ≡ rows_of) × (k < length loads.now) }
+    requires rows_are { (rows.now ≡ rows_of) × (k < length loads.now) }
     requires to_fill { ToFill loads.now lows.now highs.now k acc before at (length out.old) }
-    ensures value { result ≡ at + length (between (drop k lows.now) (drop k highs.now)) }
-    ensures out_after { take result out.new ≡ take at out.old ++ cells_from acc before (drop k loads.now) (drop k lows.now) (drop k highs.now) }
+    ensures next_place { result ≡ at + length (between (drop k lows.now) (drop k highs.now)) }
+    ensures written { take result out.new ≡ take at out.old ++ cells_from acc before (drop k loads.now) (drop k lows.now) (drop k highs.now) }
 {
     if k + 1 == loads.len() {
         return fill_last(rows, loads, lows, highs, k, acc, before, out, at);
@@ -217,10 +217,10 @@ fn those_present(loads: &[u64], lows: &[usize], highs: &[usize]) -> Present
 
 // A chain that stands at 0 changes no weight, so only those present are walked through.
 pub fn write_cells(rows: &[u64], loads: &[u64], lows: &[usize], highs: &[usize], out: &mut [u64])
-    requires rows_value { rows.now ≡ rows_of }
+    requires rows_are { rows.now ≡ rows_of }
     requires leaf_ends { LeafEnds loads.now lows.now highs.now }
-    requires out_len { length out.old ≡ length (between lows.now highs.now) }
-    requires highs_value { some (λ n. leb (2 ^ 64) n) (map (weight loads.now) (between lows.now highs.now)) ≡ false }
+    requires room { length out.old ≡ length (between lows.now highs.now) }
+    requires none_large { some (λ n. leb (2 ^ 64) n) (map (weight loads.now) (between lows.now highs.now)) ≡ false }
     ensures { out.new ≡ map (weight loads.now) (between lows.now highs.now) }
 {
     let present = those_present(loads, lows, highs);

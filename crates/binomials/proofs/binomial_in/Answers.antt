@@ -7,7 +7,7 @@ use Rattle.binomials.proofs.RowsLaws.{rows_length, rows_at}
 use Rattle.binomials.proofs.binomial_in.Goals as goal
 
 pub bounds-rows-n : goal.bounds-rows-n
-bounds-rows-n c = omega (arith, ap length c.requires.rows_value, rows_length)
+bounds-rows-n c = omega (arith, ap length c.requires.rows_are, rows_length)
 
 pub returns : goal.returns
-returns c = ap (λ rows. get_or rows (c.args.n * 16 + c.args.k) 0) c.requires.rows_value ∙ rows_at c.args.n c.args.k c.requires.n_bound.0 c.requires.n_bound.1
+returns c = ap (λ rows. get_or rows (c.args.n * 16 + c.args.k) 0) c.requires.rows_are ∙ rows_at c.args.n c.args.k c.requires.in_table.0 c.requires.in_table.1

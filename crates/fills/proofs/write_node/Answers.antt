@@ -9,10 +9,10 @@ use Rattle.fills.proofs.write_node.Goals as goal
 
 pub returns-then-n-eq0 : goal.returns-then-n-eq0
 returns-then-n-eq0 c =
-    join_put _ c.args.ch c.args.n c.args.area.now c.if-n-eq0.true c.clear.ensures (part_room _ _ _ c.requires.cells_in_bounds)
+    join_put _ c.args.ch c.args.n c.args.area.now c.if-n-eq0.true c.clear.ensures (part_room _ _ _ c.requires.room)
 
 pub write_leaf-requires : goal.write_leaf-requires
-write_leaf-requires c = record { rows_value = (c.requires.rows_value.0, c.requires.rows_value.1 c.if-n-eq0.false); cells_in_bounds = c.requires.cells_in_bounds; n_value = ap (some too_large) (sym (leaf_cells_lem _ _ _ c.if-n-eq0.false)) ∙ c.requires.n_value }
+write_leaf-requires c = record { rows_are = (c.requires.rows_are.0, c.requires.rows_are.1 c.if-n-eq0.false); room = c.requires.room; none_large = ap (some too_large) (sym (leaf_cells_lem _ _ _ c.if-n-eq0.false)) ∙ c.requires.none_large }
 
 pub returns : goal.returns
 returns c =

@@ -7,16 +7,16 @@ use Rattle.ratesheet.proofs.run.Goals as goal
 
 pub whole_value-requires : goal.whole_value-requires
 unfolding windows_of
-whole_value-requires c = record { rows_value = c.rows-rows.ensures; guaranteed = (c.requires.guaranteed.0, c.requires.guaranteed.0.windows_long, c.requires.guaranteed.0.window_range); windows_in_bounds = c.requires.guaranteed.1 }
+whole_value-requires c = record { rows_are = c.rows-rows.ensures; guaranteed = (c.requires.guaranteed.0, c.requires.guaranteed.0.windows_long, c.requires.guaranteed.0.window_range); room = c.requires.guaranteed.1 }
 
 pub answer-requires : goal.answer-requires
 unfolding windows_of
-answer-requires c = (c.requires.guaranteed.0, full_is _ (value_exact _ c.whole_value.ensures.value c.in-Exact.is).0 c.requires.cells_value.1 c.requires.cells_value.0, c.numerators-n.ensures.numbered)
+answer-requires c = (c.requires.guaranteed.0, full_is _ (value_exact _ c.whole_value.ensures.value c.in-Exact.is).0 c.requires.sizes.1 c.requires.sizes.0, c.numerators-n.ensures.numbered)
 
 pub returns-in-Exact : goal.returns-in-Exact
 unfolding windows_of
-returns-in-Exact c = record { value = c.answer.ensures ∙ (value_exact _ c.whole_value.ensures.value c.in-Exact.is).1; kept = kept_then (value_kept _ _ _ c.whole_value.ensures.area_len_unchanged) c.numerators-n.ensures.kept }
+returns-in-Exact c = record { answer = c.answer.ensures ∙ (value_exact _ c.whole_value.ensures.value c.in-Exact.is).1; kept = kept_then (value_kept _ _ _ c.whole_value.ensures.rest_kept) c.numerators-n.ensures.kept }
 
 pub returns-in-TooLarge : goal.returns-in-TooLarge
 unfolding windows_of
-returns-in-TooLarge c = record { value = c.no_sheet.ensures ∙ value_large _ c.whole_value.ensures.value c.in-TooLarge.is; kept = value_kept _ _ _ c.whole_value.ensures.area_len_unchanged }
+returns-in-TooLarge c = record { answer = c.no_sheet.ensures ∙ value_large _ c.whole_value.ensures.value c.in-TooLarge.is; kept = value_kept _ _ _ c.whole_value.ensures.rest_kept }

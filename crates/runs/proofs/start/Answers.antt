@@ -10,4 +10,4 @@ pub returns-in-Refused : goal.returns-in-Refused
 returns-in-Refused c = left_is (start_refused _ _ _ _ c.prepare-run.ensures c.in-Refused.is) (refl, refl)
 
 pub returns-in-Granted : goal.returns-in-Granted
-returns-in-Granted c = left_is (start_granted _ _ _ _ c.prepare-run.ensures c.in-Granted.is) (c.start_in.ensures.value, c.start_in.ensures.area_after)
+returns-in-Granted c = left_is (start_granted _ _ _ _ c.prepare-run.ensures c.in-Granted.is) (c.start_in.ensures.answer, c.start_in.ensures.left)

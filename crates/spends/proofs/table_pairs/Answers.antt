@@ -29,7 +29,7 @@ pub bounds-t-i : goal.bounds-t-i
 bounds-t-i c = omega (arith, c.loop-i-test.true, count_few c.requires.prepared)
 
 pub node_pairs-e-requires : goal.node_pairs-e-requires
-node_pairs-e-requires c = (node_in c.requires.prepared _ c.loop-i-test.true _ _ c.back-r.ensures c.back-l.ensures _ _ c.loop-i.invariant.long c.requires.windows_in_bounds).0
+node_pairs-e-requires c = (node_in c.requires.prepared _ c.loop-i-test.true _ _ c.back-r.ensures c.back-l.ensures _ _ c.loop-i.invariant.long c.requires.room).0
 
 pub next-i-requires : goal.next-i-requires
 next-i-requires c = c.loop-i-test.true
@@ -44,4 +44,4 @@ pub shape_of-area : goal.shape_of-area
 shape_of-area c = c.loop-i.invariant.long
 
 pub returns : goal.returns
-returns c = walked_last c.loop-i.invariant _ _ c.requires.prepared refl c.requires.windows_in_bounds c.loop-i-test.false
+returns c = walked_last c.loop-i.invariant _ _ c.requires.prepared refl c.requires.room c.loop-i-test.false

@@ -13,33 +13,33 @@ overflow_add-k t c =
 pub fill_last-requires : goal.fill_last-requires
 fill_last-requires t c =
     let to = c.requires.to_fill in
-    record { rows_value = (c.requires.rows_value.0, c.if-k-loads.true); to_fill = to }
+    record { rows_are = (c.requires.rows_are.0, c.if-k-loads.true); to_fill = to }
 
 pub returns-then-k-loads : goal.returns-then-k-loads
 returns-then-k-loads t c = c.fill_last.ensures
 
 pub bounds-loads-k : goal.bounds-loads-k
-bounds-loads-k t c = omega (arith, c.requires.rows_value.1)
+bounds-loads-k t c = omega (arith, c.requires.rows_are.1)
 
 pub bounds-highs-k : goal.bounds-highs-k
 bounds-highs-k t c =
     let to = c.requires.to_fill in
-    omega (arith, c.requires.rows_value.1, to.ends.highs_length)
+    omega (arith, c.requires.rows_are.1, to.ends.highs_length)
 
 pub bounds-lows-k : goal.bounds-lows-k
 bounds-lows-k t c =
     let to = c.requires.to_fill in
-    omega (arith, c.requires.rows_value.1, to.ends.lows_length)
+    omega (arith, c.requires.rows_are.1, to.ends.lows_length)
 
 pub exact_power-power-requires : goal.exact_power-power-requires
 exact_power-power-requires t c =
     let to = c.requires.to_fill in
-    start_low to c.requires.rows_value.1
+    start_low to c.requires.rows_are.1
 
 pub loop-i-init : goal.loop-i-init
 loop-i-init t c =
     let to = c.requires.to_fill in
-    filling_start to _ _ c.requires.rows_value.1 c.exact_power-power.ensures
+    filling_start to _ _ c.requires.rows_are.1 c.exact_power-power.ensures
 
 pub overflow_add-before : goal.overflow_add-before
 overflow_add-before t c =
@@ -51,7 +51,7 @@ pub binomial_in-ways-requires : goal.binomial_in-ways-requires
 binomial_in-ways-requires t c =
     let to = c.requires.to_fill in
     let f = c.loop-i.invariant in
-    record { rows_value = c.requires.rows_value.0; n_bound = (sum_small to refl f, index_small to refl f) }
+    record { rows_are = c.requires.rows_are.0; in_table = (sum_small to refl f, index_small to refl f) }
 
 pub overflow_add-k-in-loop-i : goal.overflow_add-k-in-loop-i
 overflow_add-k-in-loop-i t c = omega (arith, c.loop-i.invariant.inside)
@@ -74,14 +74,14 @@ fill-next-requires t c =
     let to = c.requires.to_fill in
     let f = c.loop-i.invariant in
     let ways = c.binomial_in-ways.ensures in
-    (omega (arith, c.requires.rows_value, f.inside), ((c.requires.rows_value.0, omega (arith, c.if-k-loads.false, f.inside)), deeper to refl f _ ways))
+    (omega (arith, c.requires.rows_are, f.inside), ((c.requires.rows_are.0, omega (arith, c.if-k-loads.false, f.inside)), deeper to refl f _ ways))
 
 pub returns-then-i-high : goal.returns-then-i-high
 returns-then-i-high t c =
     let to = c.requires.to_fill in
     let f = c.loop-i.invariant in
     let ways = c.binomial_in-ways.ensures in
-    let both = filled to refl f _ ways _ c.fill-next.new.out c.fill-next.ensures.value c.fill-next.ensures.out_after c.if-i-high.true in record { value = both.0; out_after = both.1 }
+    let both = filled to refl f _ ways _ c.fill-next.new.out c.fill-next.ensures.next_place c.fill-next.ensures.written c.if-i-high.true in record { next_place = both.0; written = both.1 }
 
 pub overflow_mul-power-in-loop-i : goal.overflow_mul-power-in-loop-i
 overflow_mul-power-in-loop-i t c =
@@ -103,4 +103,4 @@ loop-i-preserved t c =
     let to = c.requires.to_fill in
     let f = c.loop-i.invariant in
     let ways = c.binomial_in-ways.ensures in
-    filling_more to refl f _ ways _ c.fill-next.new.out c.fill-next.ensures.value c.fill-next.ensures.out_after (omega (arith, f.index)) (omega (arith, c.fill-next.auto.out))
+    filling_more to refl f _ ways _ c.fill-next.new.out c.fill-next.ensures.next_place c.fill-next.ensures.written (omega (arith, f.index)) (omega (arith, c.fill-next.auto.out))

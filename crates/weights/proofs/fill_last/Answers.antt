@@ -32,7 +32,7 @@ pub binomial_in-ways-requires : goal.binomial_in-ways-requires
 binomial_in-ways-requires c =
     let to = c.requires.to_fill in
     let f = c.loop-i.invariant in
-    record { rows_value = c.requires.rows_value.0; n_bound = (sum_small to refl f, index_small to refl f) }
+    record { rows_are = c.requires.rows_are.0; in_table = (sum_small to refl f, index_small to refl f) }
 
 pub overflow_mul-out : goal.overflow_mul-out
 overflow_mul-out c =
@@ -46,7 +46,7 @@ offset_bounds-out-next c =
     let to = c.requires.to_fill in
     let f = c.loop-i.invariant in
     let ways = c.binomial_in-ways.ensures in
-    let last = c.requires.rows_value.1 in
+    let last = c.requires.rows_are.1 in
     omega (arith, cell_inside to refl f _ ways last)
 
 pub bounds-out-next : goal.bounds-out-next
@@ -54,7 +54,7 @@ bounds-out-next c =
     let to = c.requires.to_fill in
     let f = c.loop-i.invariant in
     let ways = c.binomial_in-ways.ensures in
-    let last = c.requires.rows_value.1 in
+    let last = c.requires.rows_are.1 in
     cell_inside to refl f _ ways last
 
 pub overflow_add-next : goal.overflow_add-next
@@ -62,7 +62,7 @@ overflow_add-next c =
     let to = c.requires.to_fill in
     let f = c.loop-i.invariant in
     let ways = c.binomial_in-ways.ensures in
-    let last = c.requires.rows_value.1 in
+    let last = c.requires.rows_are.1 in
     omega (arith, cell_inside to refl f _ ways last)
 
 pub returns-then-i-high : goal.returns-then-i-high
@@ -70,8 +70,8 @@ returns-then-i-high c =
     let to = c.requires.to_fill in
     let f = c.loop-i.invariant in
     let ways = c.binomial_in-ways.ensures in
-    let last = c.requires.rows_value.1 in
-    let both = last_filled to refl f _ ways last c.if-i-high.true in record { value = both.0; out_after = both.1 }
+    let last = c.requires.rows_are.1 in
+    let both = last_filled to refl f _ ways last c.if-i-high.true in record { next_place = both.0; written = both.1 }
 
 pub overflow_mul-power : goal.overflow_mul-power
 overflow_mul-power c =
@@ -93,5 +93,5 @@ loop-i-preserved c =
     let to = c.requires.to_fill in
     let f = c.loop-i.invariant in
     let ways = c.binomial_in-ways.ensures in
-    let last = c.requires.rows_value.1 in
+    let last = c.requires.rows_are.1 in
     last_more to refl f _ ways last (omega (arith, f.index))

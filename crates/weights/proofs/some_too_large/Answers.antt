@@ -9,7 +9,7 @@ use Rattle.weights.proofs.some_too_large.Goals as goal
 pub weight_of-requires : goal.weight_of-requires
 weight_of-requires c =
     let ends = c.requires.leaf_ends in
-    record { rows_value = c.requires.rows_value; loads_len_bound = (ends.few, ends.windows); index_value = fits_of c.args.loads.now c.args.highs.now ends.highs_length ends.absent }
+    record { rows_are = c.requires.rows_are; few_chains = (ends.few, ends.windows); on_route = fits_of c.args.loads.now c.args.highs.now ends.highs_length ends.absent }
 
 pub returns-in-Exact : goal.returns-in-Exact
 returns-in-Exact c = sym (some_is_top c.requires.leaf_ends ∙ lt-leb _ _ (exact_says (sym c.weight_of.ensures ∙ c.in-Exact.is)).low)

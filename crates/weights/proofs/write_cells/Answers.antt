@@ -6,12 +6,12 @@ use Rattle.weights.proofs.write_cells.Goals as goal
 pub bounds-out-0 : goal.bounds-out-0
 bounds-out-0 c =
     let kept = c.those_present-present.ensures in
-    omega (arith, c.requires.out_len, one_room c.requires.leaf_ends kept c.if-n-eq0.true)
+    omega (arith, c.requires.room, one_room c.requires.leaf_ends kept c.if-n-eq0.true)
 
 pub returns-then-n-eq0 : goal.returns-then-n-eq0
 returns-then-n-eq0 c =
     let kept = c.those_present-present.ensures in
-    one_written c.requires.leaf_ends kept c.if-n-eq0.true c.args.out.now c.requires.out_len
+    one_written c.requires.leaf_ends kept c.if-n-eq0.true c.args.out.now c.requires.room
 
 pub slice_bounds-fill-end : goal.slice_bounds-fill-end
 slice_bounds-fill-end c = taken_count c.those_present-present.ensures.loads_taken
@@ -25,9 +25,9 @@ slice_bounds-fill-end-3 c = taken_count c.those_present-present.ensures.highs_ta
 pub fill-requires : goal.fill-requires
 fill-requires c =
     let kept = c.those_present-present.ensures in
-    record { rows_value = (c.requires.rows_value, omega (arith, taken_count kept.loads_taken, c.if-n-eq0.false)); to_fill = kept_to_fill c.requires.leaf_ends kept _ c.requires.out_len c.requires.highs_value }
+    record { rows_are = (c.requires.rows_are, omega (arith, taken_count kept.loads_taken, c.if-n-eq0.false)); to_fill = kept_to_fill c.requires.leaf_ends kept _ c.requires.room c.requires.none_large }
 
 pub returns : goal.returns
 returns c =
     let kept = c.those_present-present.ensures in
-    kept_filled c.requires.leaf_ends kept c.args.out.now _ _ (omega (arith, c.fill.auto.out, c.requires.out_len)) c.fill.ensures.value c.fill.ensures.out_after
+    kept_filled c.requires.leaf_ends kept c.args.out.now _ _ (omega (arith, c.fill.auto.out, c.requires.room)) c.fill.ensures.next_place c.fill.ensures.written

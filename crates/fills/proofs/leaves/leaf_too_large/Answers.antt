@@ -18,7 +18,7 @@ pub slice_bounds-some_too_large-end-3 : goal.slice_bounds-some_too_large-end-3
 slice_bounds-some_too_large-end-3 c = highs_length _ _ _ c.requires.1 _ c.ends_of-e.ensures
 
 pub some_too_large-requires : goal.some_too_large-requires
-some_too_large-requires c = record { rows_value = c.requires.0; leaf_ends = part_ends _ _ _ c.requires.1 _ c.ends_of-e.ensures }
+some_too_large-requires c = record { rows_are = c.requires.0; leaf_ends = part_ends _ _ _ c.requires.1 _ c.ends_of-e.ensures }
 
 pub returns : goal.returns
 returns c = c.some_too_large.ensures ∙ ap (some too_large) (part_cells _ _ _ c.requires.1 _ c.ends_of-e.ensures)

@@ -19,7 +19,7 @@ loop-i-init t c =
     ((omega arith, refl, refl, refl, c.value_at-old.ensures, omega arith), d, sound_as _ _ _ _ _ _ _ d c.requires, (λ x. refl), walk_begins _ _ _)
 
 pub turn_at-at-requires : goal.turn_at-at-requires
-turn_at-at-requires t c = record { i_lt_count = c.loop-i-test.true; numbers = turn_numbers _ _ _ _ _ _ _ _ _ c.loop-i.invariant.2 _ c.loop-i-test.true _ c.loop-i.invariant.0.3 }
+turn_at-at-requires t c = record { turn_left = c.loop-i-test.true; numbers = turn_numbers _ _ _ _ _ _ _ _ _ c.loop-i.invariant.2 _ c.loop-i-test.true _ c.loop-i.invariant.0.3 }
 
 pub slice_bounds-walk_loops-count : goal.slice_bounds-walk_loops-count
 slice_bounds-walk_loops-count t c = omega arith

@@ -10,13 +10,13 @@ pub loop-i-init : goal.loop-i-init
 loop-i-init c = ((refl, refl, refl, c.value_at-old.ensures, omega arith), (λ x. refl), walk_begins _ _ _)
 
 pub turn_at-at-requires : goal.turn_at-at-requires
-turn_at-at-requires c = record { i_lt_count = c.loop-i-test.true; numbers = turn_numbers _ _ _ _ _ _ _ _ _ c.requires _ c.loop-i-test.true _ c.loop-i.invariant.0.2 }
+turn_at-at-requires c = record { turn_left = c.loop-i-test.true; numbers = turn_numbers _ _ _ _ _ _ _ _ _ c.requires _ c.loop-i-test.true _ c.loop-i.invariant.0.2 }
 
 pub walk_cell-e-requires : goal.walk_cell-e-requires
 walk_cell-e-requires c =
     let i = c.loop-i.invariant in
     let at = last_at _ _ _ _ _ _ _ (turn_sound _ _ _ _ _ _ _ _ _ c.requires _ c.loop-i-test.true _ i.0.2 _ _ _ i.0.0 (c.set_at.ensures ∙ i.1 _) c.turn_at-at.ensures) in
-    record { inside = at.inside; count_value = at.counted }
+    record { inside = at.inside; counted = at.counted }
 
 pub next-i-requires : goal.next-i-requires
 next-i-requires c = c.loop-i-test.true

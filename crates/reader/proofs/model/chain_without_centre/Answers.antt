@@ -12,11 +12,11 @@ loop-k-init c = (refl, some_start _ _)
 
 pub returns-then-not-has_centre : goal.returns-then-not-has_centre
 returns-then-not-has_centre c =
-    some_hit _ _ _ c.loop-k.invariant.1 c.loop-k-test.true (ap not (sym c.has_centre.ensures) ∙ c.if-not-has_centre.true-raw)
+    some_hit _ _ _ c.loop-k.invariant.1 c.loop-k-test.true (ap not (sym c.has_centre.ensures) ∙ ap not c.if-not-has_centre.true)
 
 pub loop-k-preserved : goal.loop-k-preserved
 loop-k-preserved c =
-    (search rules, some_pass _ _ _ c.loop-k.invariant.1 c.loop-k-test.true (ap not (sym c.has_centre.ensures) ∙ c.if-not-has_centre.false-raw))
+    (search rules, some_pass _ _ _ c.loop-k.invariant.1 c.loop-k-test.true (ap not (sym c.has_centre.ensures) ∙ ap not c.if-not-has_centre.false))
 
 pub returns : goal.returns
 returns c = some_end _ _ _ c.loop-k.invariant.1 c.loop-k-test.false

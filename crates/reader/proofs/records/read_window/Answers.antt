@@ -13,4 +13,4 @@ returns-then-is_outside c = (search window_out, tt)
 
 pub returns : goal.returns
 unfolding said Room
-returns c = (search window_more, c.requires.given_bound)
+returns c = (search window_more, c.requires.window_left)

@@ -11,4 +11,4 @@ pub returns-in-Refused : goal.returns-in-Refused
 returns-in-Refused c = left_is (advance_refused _ _ _ _ _ _ c.prepare-run.ensures c.in-Refused.is) (refl, refl)
 
 pub returns-in-Granted : goal.returns-in-Granted
-returns-in-Granted c = left_is (advance_granted _ _ _ _ _ _ c.prepare-run.ensures c.in-Granted.is) (c.advance_in.ensures.value, c.advance_in.ensures.area_after)
+returns-in-Granted c = left_is (advance_granted _ _ _ _ _ _ c.prepare-run.ensures c.in-Granted.is) (c.advance_in.ensures.answer, c.advance_in.ensures.left)
