@@ -4,12 +4,12 @@
 mod table;
 
 ghost use Rattle.std.specs.Prelude.{◌≡◌, ◌≤◌};
-ghost use Rattle.network.specs.Weight.{binomial as binomialOf};
+ghost use Rattle.network.specs.Weight.{binomial as binomial_of};
 ghost use Rattle.binomials.specs.Rows.{rows as rows_of};
 
 pub fn binomial(n: usize, k: usize) -> u64
     requires { (n ≤ 120) × (k ≤ 15) }
-    ensures { result ≡ binomialOf n k }
+    ensures { result ≡ binomial_of n k }
 {
     table::TABLE[n * 16 + k]
 }
@@ -24,7 +24,7 @@ pub fn rows() -> [u64; 1936]
 pub fn binomial_in(rows: &[u64], n: usize, k: usize) -> u64
     requires rows_are { rows.now ≡ rows_of }
     requires in_table { (n ≤ 120) × (k ≤ 15) }
-    ensures { result ≡ binomialOf n k }
+    ensures { result ≡ binomial_of n k }
 {
     rows[n * 16 + k]
 }

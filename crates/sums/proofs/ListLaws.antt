@@ -1,4 +1,4 @@
--- Lists: maps and flatMaps, their members, lengths and entries; lists with no element twice; numbers in order.
+-- Lists: maps and flat maps, their members, lengths and entries; lists with no element twice; numbers in order.
 use Prim.Native.Nat.{ℕ, zero, suc, ◌+◌, ◌*◌, ◌≤◌, ◌<◌}
 use mathlib.Core.Path.{◌≡◌, refl, sym, ap, subst, ◌∙◌}
 use mathlib.Core.Logic.{◌⊎◌, inl, inr, ∥∥₁_elim}

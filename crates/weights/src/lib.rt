@@ -5,12 +5,12 @@ ghost use Rattle.std.specs.Prelude.{◌≡◌, true, false, map, ◌++◌, ◌+�
 ghost use Rattle.sums.specs.Lists.{some};
 ghost use Rattle.arith.specs.Capped.{capped};
 ghost use Rattle.binomials.specs.Rows.{rows as rows_of};
-ghost use Rattle.network.specs.Weight.{binomial as binomialOf, weight};
+ghost use Rattle.network.specs.Weight.{binomial as binomial_of, weight};
 ghost use Rattle.network.specs.Centre.{visit, fits};
 ghost use Rattle.weights.specs.Ranges.{AtMost};
 ghost use Rattle.weights.specs.Leaf.{between, LeafEnds};
 ghost use Rattle.weights.specs.Parts.{cells_from, ToFill};
-ghost use Rattle.weights.specs.Present.{presence as presenceOf, Kept};
+ghost use Rattle.weights.specs.Present.{presence as presence_of, Kept};
 
 use arith::Fits;
 
@@ -38,7 +38,7 @@ fn times_power(acc: u64, load: u64, n: usize) -> Fits
 fn times_chain(rows: &[u64], acc: u64, load: u64, before: usize, n: usize) -> Fits
     requires rows_are { rows.now ≡ rows_of }
     requires in_table { (before + n ≤ 120) × (n ≤ 15) }
-    ensures { result ≡ capped (acc * load ^ n * binomialOf (before + n) n) }
+    ensures { result ≡ capped (acc * load ^ n * binomial_of (before + n) n) }
 {
     match times_power(acc, load, n) {
         Fits::Exact(x) => arith::mul(x, binomials::binomial_in(rows, before + n, n)),
@@ -184,7 +184,7 @@ struct Present {
 }
 
 fn presence(high: usize) -> usize
-    ensures { result ≡ presenceOf high }
+    ensures { result ≡ presence_of high }
 {
     if high == 0 { 0 } else { 1 }
 }
