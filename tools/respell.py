@@ -1,7 +1,7 @@
 #!/usr/bin/env python3
 """Spells the repository's own definitions and laws as today's Rattle spells its own: words in snake case, a dash only between two names.
 
-usage: tools/respell.py        at the top of a checkout that /opt/rattle/port/port.py has just turned; run once, by the port to that Rattle
+usage: tools/respell.py        at the top of a checkout that the kit's port.py has just turned; run once, by the port to that Rattle
 
 What turns: names that specs/ and proofs/ declare (`sumOver` to `sum_over`, `antiV-assoc` to `anti_v_assoc`), wherever antt, a clause, a comment, an edit that
 must fail or a page has them. What stays: names of src/ and of C, strings, types and modules, `B` and `G` of the documents, inputs and outputs.
