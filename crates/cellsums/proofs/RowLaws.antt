@@ -8,7 +8,7 @@ use Rattle.sums.specs.Lists.{from}
 use Rattle.sums.specs.Sums.{sum_over}
 use Rattle.sums.proofs.SumLaws.{sum_over_flat}
 use Rattle.arith.specs.Capped.{capped}
-use Rattle.arith.specs.declared.Fits.TheVariants.{Exact, TooLarge}
+use Rattle.std.specs.Prelude.{Some, None}
 use Rattle.arith.proofs.CappedLaws.{capped_exact, capped_large, exact_says, large_says}
 use Rattle.cellsums.specs.Places.{places}
 
@@ -41,15 +41,15 @@ module _ (n a b : ℕ) (rows : List ℕ) (l r : ℕ) (value : ℕ × ℕ → ℕ
   sum_begins acc h = record { turns = omega arith; low = h; whole = refl }
 
   module _ (acc sum j : ℕ) (s : Summed acc sum j) (h : j < n) where
-    pub sum_again : (v : ℕ) → capped (sum + sum_over (places rows (l + j * a) (r + (n - 1 - j) * b)) value) ≡ Exact v → Summed acc v (j + 1)
+    pub sum_again : (v : ℕ) → capped (sum + sum_over (places rows (l + j * a) (r + (n - 1 - j) * b)) value) ≡ Some v → Summed acc v (j + 1)
     unfolding turn
     sum_again v e =
         let t = exact_says e in
         record { turns = omega arith; low = omega (arith, t.is, t.low); whole = omega (arith, t.is, s.whole, ahead_more j h) }
 
-    pub sum_stops : capped (sum + sum_over (places rows (l + j * a) (r + (n - 1 - j) * b)) value) ≡ TooLarge → TooLarge ≡ capped (acc + sum_over (places (n ∷ a ∷ b ∷ rows) l r) value)
+    pub sum_stops : capped (sum + sum_over (places rows (l + j * a) (r + (n - 1 - j) * b)) value) ≡ None → None ≡ capped (acc + sum_over (places (n ∷ a ∷ b ∷ rows) l r) value)
     unfolding turn
     sum_stops e = sym (capped_large (omega (arith, large_says e, s.whole, ahead_more j h, ahead_all)))
 
-  pub sum_ends : (acc sum j : ℕ) → Summed acc sum j → n ≤ j → Exact sum ≡ capped (acc + sum_over (places (n ∷ a ∷ b ∷ rows) l r) value)
+  pub sum_ends : (acc sum j : ℕ) → Summed acc sum j → n ≤ j → Some sum ≡ capped (acc + sum_over (places (n ∷ a ∷ b ∷ rows) l r) value)
   sum_ends acc sum j s h = let e : acc + sum_over (places (n ∷ a ∷ b ∷ rows) l r) value ≡ sum = omega (arith, s.whole, ahead_none j h, ahead_all) in rw e (sym (capped_exact s.low))

@@ -7,8 +7,6 @@ ghost use Rattle.sums.specs.Sums.{sum_over};
 ghost use Rattle.arith.specs.Capped.{capped};
 ghost use Rattle.cellsums.specs.Places.{places, row_then, row_at, product, Within};
 
-use arith::Fits;
-
 // A node's cells in the area.
 #[derive(Clone, Copy)]
 pub struct Part {
@@ -31,7 +29,7 @@ pub fn cell(cells: &[u64], i: usize) -> u64
     cells[i]
 }
 
-pub fn add_pair(area: &[u64], left: Part, right: Part, l: usize, r: usize, acc: u64) -> Fits
+pub fn add_pair(area: &[u64], left: Part, right: Part, l: usize, r: usize, acc: u64) -> Option<u64>
     requires { Within (length area.now) left right [] l r }
     ensures { result ≡ capped (acc + sum_over (places [] l r) (product area.now left right)) }
 {
@@ -52,7 +50,7 @@ pub fn add_row(
     l: usize,
     r: usize,
     acc: u64,
-) -> Fits
+) -> Option<u64>
     requires { Within (length area.now) left right (row_then row []) l r }
     ensures { result ≡ capped (acc + sum_over (places (row_then row []) l r) (product area.now left right)) }
 {
@@ -63,16 +61,16 @@ pub fn add_row(
     let mut j: usize = 0;
     while j < n {
         match add_pair(area, left, right, l + j * a, r + (n - 1 - j) * b, sum) {
-            Fits::Exact(v) => {
+            Some(v) => {
                 sum = v;
             }
-            Fits::TooLarge => {
-                return Fits::TooLarge;
+            None => {
+                return None;
             }
         }
         j += 1;
     }
-    Fits::Exact(sum)
+    Some(sum)
 }
 
 // Two rows with no call between their loops: most of the work is done here.
@@ -85,7 +83,7 @@ pub fn add_two_rows(
     l: usize,
     r: usize,
     acc: u64,
-) -> Fits
+) -> Option<u64>
     requires { Within (length area.now) left right (row_then row (row_then last [])) l r }
     ensures { result ≡ capped (acc + sum_over (places (row_then row (row_then last [])) l r) (product area.now left right)) }
 {
@@ -96,16 +94,16 @@ pub fn add_two_rows(
     let mut j: usize = 0;
     while j < n {
         match add_row(area, left, right, last, l + j * a, r + (n - 1 - j) * b, sum) {
-            Fits::Exact(v) => {
+            Some(v) => {
                 sum = v;
             }
-            Fits::TooLarge => {
-                return Fits::TooLarge;
+            None => {
+                return None;
             }
         }
         j += 1;
     }
-    Fits::Exact(sum)
+    Some(sum)
 }
 
 // The row at a place of a flat list.
@@ -129,7 +127,7 @@ pub fn add_rows(
     l: usize,
     r: usize,
     acc: u64,
-) -> Fits
+) -> Option<u64>
     requires { Within (length area.now) left right rows.now l r }
     ensures { result ≡ capped (acc + sum_over (places rows.now l r) (product area.now left right)) }
 {
@@ -149,16 +147,16 @@ pub fn add_rows(
     while j < n {
         let k = n - 1 - j;
         match add_rows(area, left, right, &rows[3..], l + j * a, r + k * b, sum) {
-            Fits::Exact(v) => {
+            Some(v) => {
                 sum = v;
             }
-            Fits::TooLarge => {
-                return Fits::TooLarge;
+            None => {
+                return None;
             }
         }
         j += 1;
     }
-    Fits::Exact(sum)
+    Some(sum)
 }
 
 // The same, with no call where a cell has one shared chain or none.
@@ -170,7 +168,7 @@ pub fn cell_sum(
     l: usize,
     r: usize,
     acc: u64,
-) -> Fits
+) -> Option<u64>
     requires { Within (length area.now) left right rows.now l r }
     ensures { result ≡ capped (acc + sum_over (places rows.now l r) (product area.now left right)) }
 {

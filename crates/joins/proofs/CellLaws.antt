@@ -14,7 +14,7 @@ use Rattle.sums.specs.Sums.{sum_over}
 use Rattle.network.specs.Pairs.{Pair}
 use Rattle.network.specs.Run.{sum_at, add}
 use Rattle.arith.specs.Capped.{capped}
-use Rattle.arith.specs.declared.Fits.TheVariants.{Exact}
+use Rattle.std.specs.Prelude.{Some}
 use Rattle.arith.proofs.CappedLaws.{exact_says}
 use Rattle.cellsums.specs.Places.{places, reach_left, reach_right, cells_in, product}
 use Rattle.joins.specs.Walk.{state, attempt, step, walk}
@@ -113,7 +113,7 @@ module _ (n : ℕ) (join : Join) (rows : List ℕ) (l r t : ℕ) (A : List ℕ) 
       rw h (sym (walk_past (map (pair_at join t) (places rows l r)) q.skip q.budget A (omega (arith, e)) ∙ rw e))
 
   pub cell_added : q.skip ≤ 0 → count ≤ q.budget → (x v : ℕ) (own : List ℕ) → x ≡ get_or (cells_in A join.own) t 0 → own ≡ set (cells_in A join.own) t v
-      → capped (x + sum_over (places rows l r) (product A join.left join.right)) ≡ Exact v
+      → capped (x + sum_over (places rows l r) (product A join.left join.right)) ≡ Some v
       → record { skip = 0; budget = q.budget - count; over = false; area = put_mid join.own.from (join.own.to - join.own.from) A own } ≡ walk (cell_pairs join rows l r t) (state q A)
   unfolding cell_pairs
   cell_added k b x v own ex eo e =

@@ -11,7 +11,7 @@ use lib.ListN.{get_or, set}
 use Rattle.sums.specs.Sums.{sum_over}
 use Rattle.network.specs.Run.{sum_at, add}
 use Rattle.arith.specs.Capped.{capped}
-use Rattle.arith.specs.declared.Fits.TheVariants.{Exact, TooLarge}
+use Rattle.std.specs.Prelude.{Some, None}
 use Rattle.arith.proofs.CappedLaws.{exact_says, large_says}
 use Rattle.cellsums.specs.Places.{places, reach_left, reach_right, cells_in, product}
 use Rattle.joins.specs.Walk.{state, attempt, step, walk}
@@ -53,7 +53,7 @@ module _ (n : ℕ) (join : Join) (l r t x : ℕ) (q : Quota) (A : List ℕ) (i :
       go : (b c : ℕ) → b ≡ suc c → step false 0 b (pair_at join t (l, r)) A ≡ attempt (ltb (sum_at A (pair_at join t (l, r))) (2 ^ 64)) c (pair_at join t (l, r)) A
       go b c e = rw e
 
-  pub pair_added : (v : ℕ) (own : List ℕ) → own ≡ set (cells_in A join.own) t v → capped (x + sum_over (places [] l r) (product A join.left join.right)) ≡ Exact v
+  pub pair_added : (v : ℕ) (own : List ℕ) → own ≡ set (cells_in A join.own) t v → capped (x + sum_over (places [] l r) (product A join.left join.right)) ≡ Some v
       → record { skip = 0; budget = q.budget - 1; over = false; area = put_mid join.own.from (join.own.to - join.own.from) A own } ≡ walk (cell_pairs join [] l r t) (state q A)
   unfolding attempt add pair_at
   pair_added v own eo e =
@@ -64,7 +64,7 @@ module _ (n : ℕ) (join : Join) (l r t x : ℕ) (q : Quota) (A : List ℕ) (i :
       fits : (y : ℕ) → y ≡ sum_at A (pair_at join t (l, r)) → y < 2 ^ 64 → record { skip = 0; budget = q.budget - 1; over = false; area = set A (join.own.from + t) y } ≡ attempt (ltb y (2 ^ 64)) (q.budget - 1) (pair_at join t (l, r)) A
       fits y e h = rw (lt-ltb y (2 ^ 64) h, e)
 
-  pub pair_too_large : capped (x + sum_over (places [] l r) (product A join.left join.right)) ≡ TooLarge → record { skip = 0; budget = q.budget; over = true; area = A } ≡ walk (cell_pairs join [] l r t) (state q A)
+  pub pair_too_large : capped (x + sum_over (places [] l r) (product A join.left join.right)) ≡ None → record { skip = 0; budget = q.budget; over = true; area = A } ≡ walk (cell_pairs join [] l r t) (state q A)
   unfolding attempt
   pair_too_large e =
       let f : q.budget ≡ suc (q.budget - 1) = omega (arith, z) in

@@ -5,7 +5,6 @@ ghost use Rattle.joins.specs.Walk.{state, walk, quota};
 ghost use Rattle.joins.specs.Loops.{cell_pairs, loop_then, first_loop, loop_pairs, Inside, times as times_of, turn_at, Numbers, Sound};
 
 use crate::{Join, Loop, Quota, Turn, next};
-use arith::Fits;
 use cellsums::Part;
 
 fn put(own: &mut [u64], i: usize, v: u64)
@@ -47,11 +46,11 @@ fn walk_pair(area: &mut [u64], join: Join, l: usize, r: usize, t: usize, q: Quot
     let t1 = own.to;
     let x = cellsums::cell(&area[t0..t1], t);
     match cellsums::add_pair(area, left, right, l, r, x) {
-        Fits::Exact(v) => {
+        Some(v) => {
             put(&mut area[t0..t1], t, v);
             remaining(0, q.budget - 1, false)
         }
-        Fits::TooLarge => remaining(0, q.budget, true),
+        None => remaining(0, q.budget, true),
     }
 }
 
@@ -160,11 +159,11 @@ fn walk_cell(
     let t1 = own.to;
     let x = cellsums::cell(&area[t0..t1], t);
     match cellsums::cell_sum(area, left, right, rows, l, r, x) {
-        Fits::Exact(v) => {
+        Some(v) => {
             put(&mut area[t0..t1], t, v);
             remaining(0, q.budget - count, false)
         }
-        Fits::TooLarge => one_by_one(area, join, rows, l, r, t, q),
+        None => one_by_one(area, join, rows, l, r, t, q),
     }
 }
 

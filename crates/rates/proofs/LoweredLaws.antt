@@ -16,7 +16,7 @@ use Rattle.modelfile.specs.Network.{windows_of, centres_of, tree_of}
 use Rattle.modelfile.specs.declared.Model.{Model}
 use Rattle.modelfile.proofs.Guaranteed.{Guaranteed}
 use Rattle.arith.specs.Capped.{capped}
-use Rattle.arith.specs.declared.Fits.{Fits}
+use Rattle.std.specs.Prelude.{Some}
 use Rattle.arith.proofs.CappedLaws.{capped_exact}
 use Rattle.calls.specs.Asked.{refused, granted, pick_asked, less_one, lowering, cells_in}
 use Rattle.calls.specs.Sheet.{numerator}
@@ -94,7 +94,7 @@ granted_fewer m (suc i) windows e = by (ltb m.chains (suc i)) (eqb (get_or (wind
 -- ---- the two cases of the code
 
 module _ (m : Model) (g : Guaranteed m) (chain : ℕ) (l : Lowering) (w : Lowered m chain l) where
-  pub not_run : {number place : ℕ} → 1 ≤ chain → l.asked ≡ Asked.Refused number place → Fits.Exact 0 ≡ capped (numerator m chain)
+  pub not_run : {number place : ℕ} → 1 ≤ chain → l.asked ≡ Asked.Refused number place → Some 0 ≡ capped (numerator m chain)
   unfolding asked_of
   not_run {number} {place} h e =
       let f : suc (chain - 1) ≡ chain = omega arith in

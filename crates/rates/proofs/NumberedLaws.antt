@@ -18,7 +18,7 @@ use Rattle.modelfile.specs.Network.{windows_of}
 use Rattle.modelfile.specs.declared.Model.{Model}
 use Rattle.modelfile.proofs.Guaranteed.{Guaranteed}
 use Rattle.arith.specs.Capped.{capped}
-use Rattle.arith.specs.declared.Fits.{Fits}
+use Rattle.std.specs.Prelude.{Option, Some, None}
 use Rattle.arith.proofs.CappedLaws.{exact_says, large_says}
 use Rattle.calls.specs.Asked.{cells_in}
 use Rattle.calls.specs.Start.{too_large}
@@ -72,7 +72,7 @@ module _ (m : Model) (g : Guaranteed m) where
   pub lowerings_first : (area : List ℕ) → Lowerings m area area (replicate 8 0) 0
   lowerings_first area = record { filled = rowed_first (at m) m.chains; small = λ i h. absurd (omega arith); kept = kept_same (cells_in m (windows_of m)) area }
 
-  pub lowerings_turn : {old mid new numbers : List ℕ} {k n : ℕ} {r : Fits} → Lowerings m old mid numbers k → k < m.chains → r ≡ capped (numerator m (k + 1)) → r ≡ Fits.Exact n → Kept (cells_in m (windows_of m)) mid new → Lowerings m old new (set numbers k n) (k + 1)
+  pub lowerings_turn : {old mid new numbers : List ℕ} {k n : ℕ} {r : Option ℕ} → Lowerings m old mid numbers k → k < m.chains → r ≡ capped (numerator m (k + 1)) → r ≡ Some n → Kept (cells_in m (windows_of m)) mid new → Lowerings m old new (set numbers k n) (k + 1)
   lowerings_turn {k = k} {n = n} w h e d q =
       let s = exact_says {n = numerator m (k + 1)} {v = n} (sym e ∙ d) in
       record {
@@ -81,7 +81,7 @@ module _ (m : Model) (g : Guaranteed m) where
         kept = kept_then w.kept q;
       }
 
-  pub lowerings_stop : {k : ℕ} (numbers : List ℕ) {r : Fits} → k < m.chains → r ≡ capped (numerator m (k + 1)) → r ≡ Fits.TooLarge → Numbered m (record { numbers = numbers; large = true })
+  pub lowerings_stop : {k : ℕ} (numbers : List ℕ) {r : Option ℕ} → k < m.chains → r ≡ capped (numerator m (k + 1)) → r ≡ None → Numbered m (record { numbers = numbers; large = true })
   unfolding numerators
   lowerings_stop {k} numbers h e d =
       let o : 1 + k ≡ k + 1 = omega arith in

@@ -10,7 +10,6 @@ ghost use Rattle.calls.specs.Asked.{cells_in};
 ghost use Rattle.calls.specs.Sheet.{numerator};
 ghost use Rattle.rates.specs.Steps.{Kept, Numbered};
 
-use arith::Fits;
 use modelfile::Model;
 use plan::Asked;
 use plan::windows::lowered;
@@ -24,7 +23,7 @@ pub struct AllNumerators {
 }
 
 // "A chain with window 0 has numerator 0 and isn't run."
-fn numerator(rows: &[u64], m: Model, chain: u64, area: &mut [u64]) -> Fits
+fn numerator(rows: &[u64], m: Model, chain: u64, area: &mut [u64]) -> Option<u64>
     requires rows_are { rows.now ≡ rows_of }
     requires guaranteed { Guaranteed m × (1 ≤ chain) × (cells_in m (windows_of m) ≤ length area.old) }
     ensures value { result ≡ capped (numerator m chain) }
@@ -37,7 +36,7 @@ fn numerator(rows: &[u64], m: Model, chain: u64, area: &mut [u64]) -> Fits
         Asked::Refused {
             number: _,
             place: _,
-        } => Fits::Exact(0),
+        } => Some(0),
         Asked::Granted => whole_value(rows, m, windows, area),
     }
 }
@@ -53,11 +52,11 @@ pub fn numerators(rows: &[u64], m: Model, area: &mut [u64]) -> AllNumerators
     let mut k: usize = 0;
     while k < m.chains {
         match numerator(rows, m, k as u64 + 1, area) {
-            Fits::Exact(n) => {
+            Some(n) => {
                 numbers[k] = n;
                 k += 1;
             }
-            Fits::TooLarge => {
+            None => {
                 return AllNumerators {
                     numbers,
                     large: true,

@@ -16,7 +16,7 @@ use Rattle.modelfile.specs.declared.Model.{Model}
 use Rattle.modelfile.specs.declared.Verdict.{Verdict}
 use Rattle.modelfile.specs.declared.Reading.{Reading}
 use Rattle.arith.specs.Capped.{capped}
-use Rattle.arith.specs.declared.Fits.{Fits}
+use Rattle.std.specs.Prelude.{Option, Some, None}
 use Rattle.arith.proofs.CappedLaws.{exact_says, large_says}
 use Rattle.calls.specs.Asked.{ask, lowering, cells_in, pairs_in}
 use Rattle.calls.specs.Start.{no_room}
@@ -48,12 +48,12 @@ full_is m a b d = λ i. record { value = a i; pairs = b i; cells = d i }
 
 -- ---- the full model's value
 
-module _ (m : Model) {r : Fits} (d : r ≡ capped (value (centres_of m) (windows_of m))) where
-  pub value_exact : {v : ℕ} → r ≡ Fits.Exact v → (v ≡ full_value m) × (sheet_below m ≡ sheet_of m)
+module _ (m : Model) {r : Option ℕ} (d : r ≡ capped (value (centres_of m) (windows_of m))) where
+  pub value_exact : {v : ℕ} → r ≡ Some v → (v ≡ full_value m) × (sheet_below m ≡ sheet_of m)
   unfolding full_value sheet_below sheet_of
   value_exact e = let s = exact_says (sym d ∙ e) in (s.is, rw (lt-leb (2 ^ 64) (value (centres_of m) (windows_of m)) s.low))
 
-  pub value_large : r ≡ Fits.TooLarge → no_sheet 14 0 ≡ sheet_of m
+  pub value_large : r ≡ None → no_sheet 14 0 ≡ sheet_of m
   unfolding full_value sheet_of
   value_large e = rw (le-leb (2 ^ 64) (value (centres_of m) (windows_of m)) (large_says (sym d ∙ e)))
 

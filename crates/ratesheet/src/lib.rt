@@ -12,7 +12,6 @@ ghost use Rattle.calls.specs.Promises.{SheetAllows};
 ghost use Rattle.rates.specs.Steps.{Kept};
 
 use crate::answers::{answer, no_sheet};
-use arith::Fits;
 use calls::SheetAnswer;
 use fills::clear;
 use modelfile::{Model, Verdict};
@@ -39,7 +38,7 @@ fn run(m: Model, cells: u64, pairs: u64, area: &mut [u64]) -> SheetAnswer
     let windows = m.windows;
     let rows = binomials::rows();
     match whole_value(&rows, m, windows, area) {
-        Fits::Exact(value) => {
+        Some(value) => {
             let n = numerators(&rows, m, area);
             let full = Full {
                 value,
@@ -48,7 +47,7 @@ fn run(m: Model, cells: u64, pairs: u64, area: &mut [u64]) -> SheetAnswer
             };
             answer(m, full, n)
         }
-        Fits::TooLarge => no_sheet(14, 0),
+        None => no_sheet(14, 0),
     }
 }
 

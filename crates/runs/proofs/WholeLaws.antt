@@ -20,7 +20,7 @@ use Rattle.modelfile.specs.Network.{centres_of, tree_of}
 use Rattle.modelfile.specs.declared.Model.{Model}
 use Rattle.modelfile.proofs.Guaranteed.{Guaranteed}
 use Rattle.arith.specs.Capped.{capped}
-use Rattle.arith.specs.declared.Fits.{Fits}
+use Rattle.std.specs.Prelude.{Some, None}
 use Rattle.arith.proofs.CappedLaws.{capped_exact, capped_large}
 use Rattle.calls.specs.Asked.{cells_in, pairs_in, pairs_listed, filled_by}
 use Rattle.calls.specs.Start.{too_large}
@@ -55,7 +55,7 @@ module _ (m : Model) (windows : List ℕ) (t : Table) (p : Prepared m windows t)
   ws = windows_in m windows
 
   module _ (area : List ℕ) (room : cells_in m ws ≤ length area) {large : Bool} (el : large ≡ some too_large (filled_by m ws)) where
-    pub whole_large : large ≡ true → Fits.TooLarge ≡ capped (value (centres_of m) ws)
+    pub whole_large : large ≡ true → None ≡ capped (value (centres_of m) ws)
     whole_large e = sym (capped_large (leaf_high m ws (fits p) area room (sym el ∙ e)))
 
     module _ (low : large ≡ false) {filled : List ℕ} (ef : filled ≡ started_area m ws area) where
@@ -86,16 +86,16 @@ module _ (m : Model) (windows : List ℕ) (t : Table) (p : Prepared m windows t)
               ∙ drop_at (filled_by m ws) (drop (cells_in m ws) area) (cells_in m ws) (length-filled m ws),
         )
 
-        pub whole_stopped : left.over ≡ true → Fits.TooLarge ≡ capped (value (centres_of m) ws)
+        pub whole_stopped : left.over ≡ true → None ≡ capped (value (centres_of m) ws)
         whole_stopped e = sym (capped_large (stop_high m ws (fits p) area room t.pairs (over ∙ e)))
 
         module _ (e : left.over ≡ false) where
           reach : pairs_in m ws ≤ t.pairs
           reach = omega (arith, p.tabled.pairs_are)
 
-          pub whole_exact : Fits.Exact (get_or after (t.cells - 1) 0) ≡ capped (value (centres_of m) ws)
+          pub whole_exact : Some (get_or after (t.cells - 1) 0) ≡ capped (value (centres_of m) ws)
           whole_exact =
-              ap Fits.Exact ((λ i. get_or (area_spent i) (p.tabled.cells_are i - 1) 0) ∙ last_value m ws (fits p) area room t.pairs reach (over ∙ e))
+              ap Some ((λ i. get_or (area_spent i) (p.tabled.cells_are i - 1) 0) ∙ last_value m ws (fits p) area room t.pairs reach (over ∙ e))
               ∙ sym (capped_exact (value_low m ws (fits p) area room t.pairs reach (sym el ∙ low) (over ∙ e)))
 
           pub last_inside : (1 ≤ t.cells) × (t.cells ≤ length after)

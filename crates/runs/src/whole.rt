@@ -8,7 +8,6 @@ ghost use Rattle.arith.specs.Capped.{capped};
 ghost use Rattle.binomials.specs.Rows.{rows as rows_of};
 
 use crate::last_cell;
-use arith::Fits;
 use fills::{fill, some_leaf_too_large};
 use joins::Quota;
 use modelfile::Model;
@@ -16,7 +15,7 @@ use plan::tables::make_table;
 use spends::spend;
 
 // The cells past the model's stay as they are.
-pub fn whole_value(rows: &[u64], m: Model, windows: [usize; 8], area: &mut [u64]) -> Fits
+pub fn whole_value(rows: &[u64], m: Model, windows: [usize; 8], area: &mut [u64]) -> Option<u64>
     requires rows_are { rows.now ≡ rows_of }
     requires guaranteed { Guaranteed m × (length windows ≡ 8) × ((k : ℕ) → get_or windows k 0 ≤ 15) }
     requires room { cells_in m (take m.chains windows) ≤ length area.old }
@@ -25,7 +24,7 @@ pub fn whole_value(rows: &[u64], m: Model, windows: [usize; 8], area: &mut [u64]
 {
     let t = make_table(m, windows);
     if some_leaf_too_large(rows, m, windows, t) {
-        return Fits::TooLarge;
+        return None;
     }
     fill(rows, m, windows, t, area);
     let all = Quota {
@@ -35,7 +34,7 @@ pub fn whole_value(rows: &[u64], m: Model, windows: [usize; 8], area: &mut [u64]
     };
     let left = spend(m, windows, t, area, all);
     if left.over {
-        return Fits::TooLarge;
+        return None;
     }
-    Fits::Exact(last_cell(area, t.cells))
+    Some(last_cell(area, t.cells))
 }

@@ -1,6 +1,5 @@
 // One array of numbers, in regions, holds the model at hand, its table of weights, a state and the counts; every function is lent it whole, which keeps
 // their proofs small. Reading and writing are defined for all places, sums and products for all numbers.
-use arith::Fits;
 
 // A number of 2^64 or more. No weight is 2^64 - 1, which has the prime factor 6700417.
 pub const MOST: u64 = 18446744073709551615;
@@ -69,15 +68,15 @@ pub fn put(m: &mut [u64; LENGTH], region: u64, i: u64, x: u64) {
 
 pub fn plus(a: u64, b: u64) -> u64 {
     match arith::add(a, b) {
-        Fits::Exact(sum) => sum,
-        Fits::TooLarge => MOST,
+        Some(sum) => sum,
+        None => MOST,
     }
 }
 
 pub fn times(a: u64, b: u64) -> u64 {
     match arith::mul(a, b) {
-        Fits::Exact(product) => product,
-        Fits::TooLarge => MOST,
+        Some(product) => product,
+        None => MOST,
     }
 }
 

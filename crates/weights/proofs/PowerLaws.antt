@@ -6,7 +6,7 @@ use native.Mathlib.Nat.{mul_assoc, mul-one, mul-zero, pow-zero, pow-suc, pow-le-
 use native.Mathlib.Numerals.{add-one}
 use native.Mathlib.Omega.{arith}
 use Rattle.arith.specs.Capped.{capped}
-use Rattle.arith.specs.declared.Fits.TheVariants.{Exact, TooLarge}
+use Rattle.std.specs.Prelude.{Some, None}
 use Rattle.arith.proofs.CappedLaws.{capped_exact, capped_large, exact_says, large_says}
 
 -- a factor of at least 1
@@ -21,10 +21,10 @@ factor_pos a zero h = absurd (omega (arith, mul-zero a))
 factor_pos a (suc b) h = omega arith
 
 -- one product, then another
-pub then_exact : (a b : ℕ) {x y : ℕ} → capped a ≡ Exact x → y ≡ b → capped (x * y) ≡ capped (a * b)
+pub then_exact : (a b : ℕ) {x y : ℕ} → capped a ≡ Some x → y ≡ b → capped (x * y) ≡ capped (a * b)
 then_exact a b e d = let t = exact_says e in λ i. capped (t.is i * d i)
 
-pub then_large : (a b : ℕ) → 1 ≤ b → capped a ≡ TooLarge → capped (a * b) ≡ TooLarge
+pub then_large : (a b : ℕ) → 1 ≤ b → capped a ≡ None → capped (a * b) ≡ None
 then_large a b h e = capped_large (still_large a b (large_says e) h)
 
 -- `product` is the product of acc and i loads
@@ -32,16 +32,16 @@ module _ (acc load i product : ℕ) (e : product ≡ acc * load ^ i) where
   one_more : product * load ≡ acc * load ^ (i + 1)
   one_more = rw (add-one i, pow-suc load i) (ap (λ x. x * load) e ∙ mul_assoc acc (load ^ i) load)
 
-  pub power_exact : {x : ℕ} → capped (product * load) ≡ Exact x → (x ≡ acc * load ^ (i + 1)) × (x < 2 ^ 64)
+  pub power_exact : {x : ℕ} → capped (product * load) ≡ Some x → (x ≡ acc * load ^ (i + 1)) × (x < 2 ^ 64)
   power_exact f = let t = exact_says f in (t.is ∙ one_more, omega (arith, t.is, t.low))
 
-  pub power_large : (n : ℕ) → i < n → capped (product * load) ≡ TooLarge → capped (acc * load ^ n) ≡ TooLarge
+  pub power_large : (n : ℕ) → i < n → capped (product * load) ≡ None → capped (acc * load ^ n) ≡ None
   power_large n h f =
       let l : 2 ^ 64 ≤ product * load = large_says f in
       let up : acc * load ^ (i + 1) ≤ acc * load ^ n = mul-le-mul (le_refl acc) (pow-le-pow_right (factor_pos product load l) (omega arith)) in
       capped_large (omega (arith, l, up, one_more))
 
-  pub power_done : (n : ℕ) → i ≡ n → product < 2 ^ 64 → capped (acc * load ^ n) ≡ Exact product
+  pub power_done : (n : ℕ) → i ≡ n → product < 2 ^ 64 → capped (acc * load ^ n) ≡ Some product
   power_done n d h = sym (ap capped (e ∙ ap (λ j. acc * load ^ j) d)) ∙ capped_exact h
 
 pub power_none : (acc load : ℕ) → acc ≡ acc * load ^ 0

@@ -10,7 +10,7 @@ use native.Mathlib.Omega.{arith}
 use lib.ListN.{length, get_or, drop, drop_of_length-le}
 use lib.Seq.{drop-cons}
 use Rattle.arith.specs.Capped.{capped}
-use Rattle.arith.specs.declared.Fits.TheVariants.{Exact, TooLarge}
+use Rattle.std.specs.Prelude.{Some, None}
 use Rattle.arith.proofs.CappedLaws.{capped_exact, capped_large, exact_says, large_says}
 use Rattle.network.specs.Weight.{binomial, multinomial, powers, weight}
 use Rattle.network.specs.Centre.{visit, fits}
@@ -76,7 +76,7 @@ unfolding Reached
 reached_none loads ns = weight_whole loads ns
 
 module _ (loads ns : List ℕ) (f : fits (map visit loads) ns ≡ true) (acc before k : ℕ) (r : Reached loads ns acc before k) where
-  pub reached_done : length loads ≤ k → acc < 2 ^ 64 → capped (weight loads ns) ≡ Exact acc
+  pub reached_done : length loads ≤ k → acc < 2 ^ 64 → capped (weight loads ns) ≡ Some acc
   unfolding Reached weight_after multinomial powers
   reached_done h low =
       let l : length ns ≤ k = omega (arith, fits-length loads ns f) in
@@ -101,9 +101,9 @@ module _ (loads ns : List ℕ) (f : fits (map visit loads) ns ≡ true) (acc bef
     later_pos : 1 ≤ later
     later_pos = after_pos (before + n) (drop (k + 1) loads) (drop (k + 1) ns) (fits-drop (k + 1) loads ns f)
 
-    pub part_exact : {x : ℕ} → capped (acc * load ^ n * binomial (before + n) n) ≡ Exact x → Reached loads ns x (before + n) (k + 1) × (x < 2 ^ 64)
+    pub part_exact : {x : ℕ} → capped (acc * load ^ n * binomial (before + n) n) ≡ Some x → Reached loads ns x (before + n) (k + 1) × (x < 2 ^ 64)
     unfolding Reached
     part_exact e = let t = exact_says e in (ap (λ y. y * later) t.is ∙ part_on, omega (arith, t.is, t.low))
 
-    pub part_large : capped (acc * load ^ n * binomial (before + n) n) ≡ TooLarge → capped (weight loads ns) ≡ TooLarge
+    pub part_large : capped (acc * load ^ n * binomial (before + n) n) ≡ None → capped (weight loads ns) ≡ None
     part_large e = capped_large (rw (sym part_on) (still_large _ later (large_says e) later_pos))

@@ -12,41 +12,39 @@ ghost use Rattle.weights.specs.Leaf.{between, LeafEnds};
 ghost use Rattle.weights.specs.Parts.{cells_from, ToFill};
 ghost use Rattle.weights.specs.Present.{presence as presence_of, Kept};
 
-use arith::Fits;
-
-fn times_power(acc: u64, load: u64, n: usize) -> Fits
+fn times_power(acc: u64, load: u64, n: usize) -> Option<u64>
     ensures { result ≡ capped (acc * load ^ n) }
 {
     let mut product = acc;
     let mut i: usize = 0;
     while i < n {
         match arith::mul(product, load) {
-            Fits::Exact(x) => {
+            Some(x) => {
                 product = x;
             }
-            Fits::TooLarge => {
-                return Fits::TooLarge;
+            None => {
+                return None;
             }
         }
         i += 1;
     }
-    Fits::Exact(product)
+    Some(product)
 }
 
 // One chain's part of a weight: n messages, where those of the chains before are there already. The binomial comes last: it is at
 // least 1, so a power that is too large settles it.
-fn times_chain(rows: &[u64], acc: u64, load: u64, before: usize, n: usize) -> Fits
+fn times_chain(rows: &[u64], acc: u64, load: u64, before: usize, n: usize) -> Option<u64>
     requires rows_are { rows.now ≡ rows_of }
     requires in_table { (before + n ≤ 120) × (n ≤ 15) }
     ensures { result ≡ capped (acc * load ^ n * binomial_of (before + n) n) }
 {
     match times_power(acc, load, n) {
-        Fits::Exact(x) => arith::mul(x, binomials::binomial_in(rows, before + n, n)),
-        Fits::TooLarge => Fits::TooLarge,
+        Some(x) => arith::mul(x, binomials::binomial_in(rows, before + n, n)),
+        None => None,
     }
 }
 
-pub fn weight_of(rows: &[u64], loads: &[u64], index: &[usize]) -> Fits
+pub fn weight_of(rows: &[u64], loads: &[u64], index: &[usize]) -> Option<u64>
     requires rows_are { rows.now ≡ rows_of }
     requires few_chains { (length loads.now ≤ 8) × AtMost 15 index.now }
     requires on_route { fits (map visit loads.now) index.now ≡ true }
@@ -58,17 +56,17 @@ pub fn weight_of(rows: &[u64], loads: &[u64], index: &[usize]) -> Fits
     while k < loads.len() {
         let n = index[k];
         match times_chain(rows, acc, loads[k], before, n) {
-            Fits::Exact(x) => {
+            Some(x) => {
                 acc = x;
             }
-            Fits::TooLarge => {
-                return Fits::TooLarge;
+            None => {
+                return None;
             }
         }
         before += n;
         k += 1;
     }
-    Fits::Exact(acc)
+    Some(acc)
 }
 
 // Whether some cell of a leaf is too large. No index has a larger weight than the highest.
@@ -78,8 +76,8 @@ pub fn some_too_large(rows: &[u64], loads: &[u64], lows: &[usize], highs: &[usiz
     ensures { result ≡ some (λ n. leb (2 ^ 64) n) (map (weight loads.now) (between lows.now highs.now)) }
 {
     match weight_of(rows, loads, highs) {
-        Fits::Exact(_) => false,
-        Fits::TooLarge => true,
+        Some(_) => false,
+        None => true,
     }
 }
 
@@ -88,8 +86,8 @@ fn exact_power(acc: u64, load: u64, n: usize) -> u64
     ensures { result ≡ acc * load ^ n }
 {
     match times_power(acc, load, n) {
-        Fits::Exact(x) => x,
-        Fits::TooLarge => 0,
+        Some(x) => x,
+        None => 0,
     }
 }
 

@@ -1,6 +1,7 @@
--- `mul_add` meets its contract: two factors below 2^32 have a product below 2^64.
-use Rattle.arith.proofs.CappedLaws.{small_product}
+-- `mul_add` meets its contract: the sum as formed in 128 bits, if it has a place in 64.
+use mathlib.Core.Path.{◌∙◌}
+use Rattle.arith.proofs.CappedLaws.{capped_ok}
 use Rattle.arith.proofs.mul_add.Goals as goal
 
-pub overflow_mul-a : goal.overflow_mul-a
-overflow_mul-a c = record { fits = small_product c.if-a-lt4294967296.true c.if-b-lt4294967296.true }
+pub returns : goal.returns
+returns c = c.ok.ensures.value ∙ capped_ok _ _ c.try_from.ensures

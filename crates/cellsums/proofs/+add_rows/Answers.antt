@@ -47,13 +47,13 @@ add_rows-requires t c =
     let rows = c.args.rows.now in
     (omega (arith, c.loop-j.invariant.0.0, length-take (length rows - 3) (drop 3 rows), length-drop 3 rows), within_turn c.loop-j.invariant.2 _ c.loop-j-test.true)
 
-pub returns-in-TooLarge : goal.returns-in-TooLarge
-returns-in-TooLarge t c = sum_stops _ _ _ _ _ _ _ _ _ _ c.loop-j.invariant.3 c.loop-j-test.true (sym c.add_rows.ensures ∙ c.in-TooLarge.is) ∙ sum_as _ _ _ _ c.loop-j.invariant.1
+pub returns-in-None : goal.returns-in-None
+returns-in-None t c = sum_stops _ _ _ _ _ _ _ _ _ _ c.loop-j.invariant.3 c.loop-j-test.true (sym c.add_rows.ensures ∙ c.in-None.is) ∙ sum_as _ _ _ _ c.loop-j.invariant.1
 
 pub loop-j-preserved : goal.loop-j-preserved
 loop-j-preserved t c =
     let i = c.loop-j.invariant in
-    (i.0, i.1, i.2, sum_again _ _ _ _ _ _ _ _ _ _ i.3 c.loop-j-test.true _ (sym c.add_rows.ensures ∙ c.in-Exact.is))
+    (i.0, i.1, i.2, sum_again _ _ _ _ _ _ _ _ _ _ i.3 c.loop-j-test.true _ (sym c.add_rows.ensures ∙ c.in-Some.is))
 
 pub returns : goal.returns
 returns t c = sum_ends _ _ _ _ _ _ _ _ _ _ c.loop-j.invariant.3 c.loop-j-test.false ∙ sum_as _ _ _ _ c.loop-j.invariant.1

@@ -15,13 +15,13 @@ pub bounds-numbers-k : goal.bounds-numbers-k
 bounds-numbers-k c = omega (arith, c.loop-k.invariant.filled.long, c.requires.guaranteed.0.chains_range, c.loop-k-test.true)
 
 pub loop-k-preserved : goal.loop-k-preserved
-loop-k-preserved c = lowerings_turn _ c.requires.guaranteed.0 c.loop-k.invariant c.loop-k-test.true c.numerator.ensures.value c.in-Exact.is c.numerator.ensures.kept
+loop-k-preserved c = lowerings_turn _ c.requires.guaranteed.0 c.loop-k.invariant c.loop-k-test.true c.numerator.ensures.value c.in-Some.is c.numerator.ensures.kept
 
-pub shape_of-area-in-TooLarge : goal.shape_of-area-in-TooLarge
-shape_of-area-in-TooLarge c = (kept_then c.loop-k.invariant.kept c.numerator.ensures.kept).long
+pub shape_of-area-in-None : goal.shape_of-area-in-None
+shape_of-area-in-None c = (kept_then c.loop-k.invariant.kept c.numerator.ensures.kept).long
 
-pub returns-in-TooLarge : goal.returns-in-TooLarge
-returns-in-TooLarge c = record { numbered = lowerings_stop _ c.requires.guaranteed.0 _ c.loop-k-test.true c.numerator.ensures.value c.in-TooLarge.is; kept = kept_then c.loop-k.invariant.kept c.numerator.ensures.kept }
+pub returns-in-None : goal.returns-in-None
+returns-in-None c = record { numbered = lowerings_stop _ c.requires.guaranteed.0 _ c.loop-k-test.true c.numerator.ensures.value c.in-None.is; kept = kept_then c.loop-k.invariant.kept c.numerator.ensures.kept }
 
 pub shape_of-area : goal.shape_of-area
 shape_of-area c = c.loop-k.invariant.kept.long

@@ -11,12 +11,12 @@ whole_value-requires c = record { rows_are = c.rows-rows.ensures; guaranteed = (
 
 pub answer-requires : goal.answer-requires
 unfolding windows_of
-answer-requires c = (c.requires.guaranteed.0, full_is _ (value_exact _ c.whole_value.ensures.value c.in-Exact.is).0 c.requires.sizes.1 c.requires.sizes.0, c.numerators-n.ensures.numbered)
+answer-requires c = (c.requires.guaranteed.0, full_is _ (value_exact _ c.whole_value.ensures.value c.in-Some.is).0 c.requires.sizes.1 c.requires.sizes.0, c.numerators-n.ensures.numbered)
 
-pub returns-in-Exact : goal.returns-in-Exact
+pub returns-in-Some : goal.returns-in-Some
 unfolding windows_of
-returns-in-Exact c = record { answer = c.answer.ensures ∙ (value_exact _ c.whole_value.ensures.value c.in-Exact.is).1; kept = kept_then (value_kept _ _ _ c.whole_value.ensures.rest_kept) c.numerators-n.ensures.kept }
+returns-in-Some c = record { answer = c.answer.ensures ∙ (value_exact _ c.whole_value.ensures.value c.in-Some.is).1; kept = kept_then (value_kept _ _ _ c.whole_value.ensures.rest_kept) c.numerators-n.ensures.kept }
 
-pub returns-in-TooLarge : goal.returns-in-TooLarge
+pub returns-in-None : goal.returns-in-None
 unfolding windows_of
-returns-in-TooLarge c = record { answer = c.no_sheet.ensures ∙ value_large _ c.whole_value.ensures.value c.in-TooLarge.is; kept = value_kept _ _ _ c.whole_value.ensures.rest_kept }
+returns-in-None c = record { answer = c.no_sheet.ensures ∙ value_large _ c.whole_value.ensures.value c.in-None.is; kept = value_kept _ _ _ c.whole_value.ensures.rest_kept }

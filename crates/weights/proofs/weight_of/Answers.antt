@@ -15,15 +15,15 @@ bounds-index-k c = omega (arith, fits-length c.args.loads.now c.args.index.now c
 pub times_chain-requires : goal.times_chain-requires
 times_chain-requires c = record { rows_are = c.requires.rows_are; in_table = (omega (arith, c.requires.few_chains.1 c.loop-k.k), c.requires.few_chains.1 c.loop-k.k) }
 
-pub returns-in-TooLarge : goal.returns-in-TooLarge
-returns-in-TooLarge c = sym (part_large _ _ c.requires.on_route c.loop-k.acc c.loop-k.before c.loop-k.k c.loop-k.invariant.3 (search rules) (sym c.times_chain.ensures ∙ c.in-TooLarge.is))
+pub returns-in-None : goal.returns-in-None
+returns-in-None c = sym (part_large _ _ c.requires.on_route c.loop-k.acc c.loop-k.before c.loop-k.k c.loop-k.invariant.3 (search rules) (sym c.times_chain.ensures ∙ c.in-None.is))
 
 pub overflow_add-before : goal.overflow_add-before
 overflow_add-before c = omega (arith, c.requires.few_chains.1 c.loop-k.k)
 
 pub loop-k-preserved : goal.loop-k-preserved
 loop-k-preserved c =
-    let r = part_exact _ _ c.requires.on_route c.loop-k.acc c.loop-k.before c.loop-k.k c.loop-k.invariant.3 (search rules) (sym c.times_chain.ensures ∙ c.in-Exact.is) in
+    let r = part_exact _ _ c.requires.on_route c.loop-k.acc c.loop-k.before c.loop-k.k c.loop-k.invariant.3 (search rules) (sym c.times_chain.ensures ∙ c.in-Some.is) in
     (search rules, omega (arith, c.requires.few_chains.1 c.loop-k.k), r.1, r.0)
 
 pub returns : goal.returns

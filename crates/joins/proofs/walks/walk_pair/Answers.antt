@@ -12,8 +12,8 @@ returns-then-q-gt0 c = rw c.remaining.ensures (pair_skipped _ _ _ _ _ _ c.if-q.f
 pub returns-then-q-eq0 : goal.returns-then-q-eq0
 returns-then-q-eq0 c = pair_spent _ _ _ _ _ _ c.if-q.false c.if-q-gt0.false c.if-q-eq0.true
 
-pub returns-in-Exact : goal.returns-in-Exact
-returns-in-Exact c = rw c.remaining-in-Exact.ensures (pair_added _ _ _ _ _ _ _ _ c.requires c.cell-x.ensures c.if-q.false c.if-q-gt0.false c.if-q-eq0.false _ _ c.put.ensures (sym c.add_pair.ensures ∙ c.in-Exact.is))
+pub returns-in-Some : goal.returns-in-Some
+returns-in-Some c = rw c.remaining-in-Some.ensures (pair_added _ _ _ _ _ _ _ _ c.requires c.cell-x.ensures c.if-q.false c.if-q-gt0.false c.if-q-eq0.false _ _ c.put.ensures (sym c.add_pair.ensures ∙ c.in-Some.is))
 
-pub returns-in-TooLarge : goal.returns-in-TooLarge
-returns-in-TooLarge c = rw c.remaining-in-TooLarge.ensures (pair_too_large _ _ _ _ _ _ _ _ c.requires c.cell-x.ensures c.if-q.false c.if-q-gt0.false c.if-q-eq0.false (sym c.add_pair.ensures ∙ c.in-TooLarge.is))
+pub returns-in-None : goal.returns-in-None
+returns-in-None c = rw c.remaining-in-None.ensures (pair_too_large _ _ _ _ _ _ _ _ c.requires c.cell-x.ensures c.if-q.false c.if-q-gt0.false c.if-q-eq0.false (sym c.add_pair.ensures ∙ c.in-None.is))

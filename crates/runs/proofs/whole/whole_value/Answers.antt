@@ -1,6 +1,6 @@
 -- `whole_value` meets its contract: a leaf too large, a pair that stops, or all pairs done.
 use mathlib.Core.Path.{refl, sym, ap, ◌∙◌}
-use Rattle.arith.specs.declared.Fits.{Fits}
+use Rattle.std.specs.Prelude.{Some}
 use Rattle.runs.proofs.WholeLaws.{prepared, whole_large, room_filled, whole_kept, whole_stopped, whole_exact, last_inside}
 use Rattle.runs.proofs.whole.whole_value.Goals as goal
 
@@ -26,4 +26,4 @@ pub last_cell-requires : goal.last_cell-requires
 last_cell-requires c = last_inside _ _ _ (prepared _ _ _ c.requires.guaranteed c.make_table-t.ensures) _ c.requires.room c.some_leaf_too_large.ensures c.if-some_leaf_too_large.false c.fill.ensures c.spend-left.ensures c.if-left.false
 
 pub returns : goal.returns
-returns c = record { value = ap Fits.Exact c.last_cell.ensures ∙ whole_exact _ _ _ (prepared _ _ _ c.requires.guaranteed c.make_table-t.ensures) _ c.requires.room c.some_leaf_too_large.ensures c.if-some_leaf_too_large.false c.fill.ensures c.spend-left.ensures c.if-left.false; rest_kept = whole_kept _ _ _ (prepared _ _ _ c.requires.guaranteed c.make_table-t.ensures) _ c.requires.room c.some_leaf_too_large.ensures c.if-some_leaf_too_large.false c.fill.ensures c.spend-left.ensures }
+returns c = record { value = ap Some c.last_cell.ensures ∙ whole_exact _ _ _ (prepared _ _ _ c.requires.guaranteed c.make_table-t.ensures) _ c.requires.room c.some_leaf_too_large.ensures c.if-some_leaf_too_large.false c.fill.ensures c.spend-left.ensures c.if-left.false; rest_kept = whole_kept _ _ _ (prepared _ _ _ c.requires.guaranteed c.make_table-t.ensures) _ c.requires.room c.some_leaf_too_large.ensures c.if-some_leaf_too_large.false c.fill.ensures c.spend-left.ensures }
