@@ -13,12 +13,12 @@ use Rattle.sums.specs.Lists.{from, some}
 use Rattle.sums.proofs.ListLaws.{from_in, length_from}
 use Rattle.sums.proofs.BoolLaws.{some_is, none_of}
 use Rattle.network.specs.Coverage.{under}
+use Rattle.std.specs.Prelude.{Ok}
 use Rattle.modelfile.specs.Model.{empty_model, with_size, with_window, slot, with_load, with_leaf, with_join}
 use Rattle.modelfile.specs.Records.{loaded, chain_without_centre, centre_missing}
 use Rattle.modelfile.specs.File.{read_file}
 use Rattle.modelfile.specs.Network.{subtrees, latest, tree_of}
 use Rattle.modelfile.specs.declared.Model.{Model}
-use Rattle.modelfile.specs.declared.Verdict.{Verdict}
 use Rattle.modelfile.proofs.StepLaws.{Taken, Ended}
 use Rattle.modelfile.proofs.WalkLaws.{Keeps, reached}
 use Rattle.modelfile.proofs.InTreeLaws.{in_tree, in_tree_all}
@@ -178,5 +178,5 @@ guaranteed m v d =
       leaves = subst (λ cs. Permᴰ (under (latest S)) cs) all (subst (λ T. Permᴰ (all_under T) (in_tree 1 m.placed)) one v.growing.flagged);
     }
 
-pub accepted : (file : List ℕ) → (read_file file).verdict ≡ Verdict.Accepted → Guaranteed (read_file file).model
+pub accepted : (file : List ℕ) → (read_file file).verdict ≡ Ok tt → Guaranteed (read_file file).model
 accepted file e = let r = reached (λ at m. Kept m) kept_step kept_empty file e in guaranteed _ r.kept r.ended

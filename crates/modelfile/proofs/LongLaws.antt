@@ -10,12 +10,13 @@ use lib.ListN.{length, get_or, take}
 use lib.Seq.{take_all, get_or-take, length-take-le}
 use borrow.Author.Tests.{ltb-true, ltb-false, lt-ltb, lt-leb}
 use Rattle.sums.specs.Lists.{some}
+use Rattle.std.specs.Prelude.{Ok}
 use Rattle.modelfile.specs.Model.{empty_model, with_size, with_window, with_load, with_leaf, with_join}
 use Rattle.modelfile.specs.Records.{pick, refuse, read_size, read_window, read_load, read_leaf, read_join, read_end, body_length, due, read_body, read_record}
 use Rattle.modelfile.specs.File.{onward, read_from, read_file}
 use Rattle.modelfile.specs.declared.Model.{Model}
+use Rattle.modelfile.specs.declared.Fault.{Fault}
 use Rattle.modelfile.specs.declared.Stepped.{Stepped}
-use Rattle.modelfile.specs.declared.Verdict.{Verdict}
 use Rattle.modelfile.proofs.StepLaws.{Due, due_is, Taken, Outcome, record_outcome}
 use Rattle.modelfile.proofs.WalkLaws.{Keeps, reached}
 use Rattle.modelfile.proofs.InTreeLaws.{in_tree, in_tree_few}
@@ -62,7 +63,7 @@ module _ (at : ℕ) (m : Model) (v : Near at m) where
       by zero e = omega (arith, near_sum)
       by (suc k) e = omega (arith, near_sum, v.trees_some (omega arith), v.kept.sound.nodes_few, in_tree_few 1 m.placed, v.kept.sound.placed_long)
 
-pub accepted_short : (file : List ℕ) → (read_file file).verdict ≡ Verdict.Accepted → length file ≤ 715
+pub accepted_short : (file : List ℕ) → (read_file file).verdict ≡ Ok tt → length file ≤ 715
 accepted_short file e = let r = reached Near near_step near_empty file e in omega (arith, r.last, near_place _ _ r.kept)
 
 -- ---- the first 716 bytes
@@ -100,7 +101,7 @@ module _ (n : ℕ) (rest : List ℕ) (at : ℕ) (m : Model) (two : 2 ≤ n) (lon
   record_front room = rw (same 0 (omega arith), length-take-le n rest long) (by (some (eqb (get_or rest 0 0)) (due m)) refl)
     where
       by : (t : Bool) → some (eqb (get_or rest 0 0)) (due m) ≡ t
-          → pick (not t) (refuse 2 at m) (pick (leb n (body_length (get_or rest 0 0))) (refuse 1 (at + n) m) (read_body (get_or rest 0 0) (take n rest) at m)) ≡ pick (not t) (refuse 2 at m) (pick (leb (length rest) (body_length (get_or rest 0 0))) (refuse 1 (at + length rest) m) (read_body (get_or rest 0 0) rest at m))
+          → pick (not t) (refuse Fault.NotDue at m) (pick (leb n (body_length (get_or rest 0 0))) (refuse Fault.Incomplete (at + n) m) (read_body (get_or rest 0 0) (take n rest) at m)) ≡ pick (not t) (refuse Fault.NotDue at m) (pick (leb (length rest) (body_length (get_or rest 0 0))) (refuse Fault.Incomplete (at + length rest) m) (read_body (get_or rest 0 0) rest at m))
       by false e = refl
       by true e =
           let d = due_is m (get_or rest 0 0) e in
@@ -123,7 +124,7 @@ from_front (x ∷ xs) (suc k) zero at m e l v =
         → onward r.step r.model (read_from (take k xs) (body_length x) (suc at) r.model) ≡ onward r.step r.model (read_from xs (body_length x) (suc at) r.model)
     by r (Outcome.goes {n} b t) f = f n (near_step at m _ n here t)
     by r (Outcome.ends d b) f = refl
-    by r (Outcome.stops w p) f = refl
+    by r (Outcome.stops p) f = refl
 
 -- the whole reading, model included
 pub front_settles : (file : List ℕ) → read_file (take 716 file) ≡ read_file file

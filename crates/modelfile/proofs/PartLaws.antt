@@ -8,11 +8,12 @@ use native.Mathlib.Omega.{arith}
 use lib.Dec.{eqb}
 use lib.ListN.{length, take, drop, length-drop}
 use lib.Seq.{length-take-le}
+use Rattle.std.specs.Prelude.{Ok, Err}
 use Rattle.modelfile.specs.Model.{empty_model, with_size, with_window, with_load, first_place, with_leaf, with_join}
 use Rattle.modelfile.specs.File.{read_file}
 use Rattle.modelfile.specs.Part.{tree_part, part_from}
 use Rattle.modelfile.specs.declared.Model.{Model}
-use Rattle.modelfile.specs.declared.Verdict.{Verdict}
+use Rattle.modelfile.specs.declared.Refusal.{Refusal}
 use Rattle.modelfile.proofs.StepLaws.{positive, Taken}
 use Rattle.modelfile.proofs.WalkLaws.{Keeps, reached}
 
@@ -32,27 +33,27 @@ begun_step at m to n i (Taken.leaf c a b d e) = record { begun = λ h. by (eqb m
     by false e = omega (arith, i.begun (positive m.count e))
 begun_step at m to n i (Taken.join a b) = record { begun = λ h. omega (arith, i.begun a) }
 
-pub first_inside : (file : List ℕ) → (read_file file).verdict ≡ Verdict.Accepted → (read_file file).model.first + 3 ≤ length file
+pub first_inside : (file : List ℕ) → (read_file file).verdict ≡ Ok tt → (read_file file).model.first + 3 ≤ length file
 unfolding empty_model
 first_inside file e = let r = reached Begun begun_step (record { begun = λ h. absurd (omega arith) }) file e in omega (arith, r.kept.begun r.ended.nodes_some, r.last)
 
-pub part_refused : (file : List ℕ) (number place : ℕ) → (read_file file).verdict ≡ Verdict.Refused number place → tree_part file ≡ []
+pub part_refused : (file : List ℕ) (r : Refusal) → (read_file file).verdict ≡ Err r → tree_part file ≡ []
 unfolding tree_part
-part_refused file number place e = rw e
+part_refused file r e = rw e
 
-pub part_accepted : (file : List ℕ) → (read_file file).verdict ≡ Verdict.Accepted → tree_part file ≡ take (length file - 1 - (read_file file).model.first) (drop (read_file file).model.first file)
+pub part_accepted : (file : List ℕ) → (read_file file).verdict ≡ Ok tt → tree_part file ≡ take (length file - 1 - (read_file file).model.first) (drop (read_file file).model.first file)
 unfolding tree_part
 part_accepted file e = rw e
 
-pub from_refused : (file : List ℕ) (number place : ℕ) → (read_file file).verdict ≡ Verdict.Refused number place → part_from file ≡ 0
+pub from_refused : (file : List ℕ) (r : Refusal) → (read_file file).verdict ≡ Err r → part_from file ≡ 0
 unfolding part_from
-from_refused file number place e = rw e
+from_refused file r e = rw e
 
-pub from_accepted : (file : List ℕ) → (read_file file).verdict ≡ Verdict.Accepted → part_from file ≡ (read_file file).model.first
+pub from_accepted : (file : List ℕ) → (read_file file).verdict ≡ Ok tt → part_from file ≡ (read_file file).model.first
 unfolding part_from
 from_accepted file e = rw e
 
-pub part_length : (file : List ℕ) → (read_file file).verdict ≡ Verdict.Accepted → (read_file file).model.first + length (tree_part file) + 1 ≡ length file
+pub part_length : (file : List ℕ) → (read_file file).verdict ≡ Ok tt → (read_file file).model.first + length (tree_part file) + 1 ≡ length file
 part_length file e =
     let first = (read_file file).model.first in
     let h = first_inside file e in

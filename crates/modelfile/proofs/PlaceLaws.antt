@@ -6,8 +6,10 @@ use mathlib.Core.List.{List, [], ◌∷◌}
 use native.Mathlib.Omega.{arith}
 use lib.ListN.{length, get_or, drop, length-drop, drop_of_length-le}
 use lib.Seq.{drop-cons, drop-drop}
+use Rattle.std.specs.Prelude.{Ok}
 use Rattle.modelfile.specs.Records.{body_length, read_record}
 use Rattle.modelfile.specs.File.{refused, onward, read_from}
+use Rattle.modelfile.specs.declared.Fault.{Fault}
 use Rattle.modelfile.specs.declared.Model.{Model}
 use Rattle.modelfile.specs.declared.Step.{Step}
 use Rattle.modelfile.specs.declared.Stepped.{Stepped}
@@ -24,13 +26,13 @@ abbrev pub next : List ℕ → ℕ → ℕ
 next file at = at + (1 + body_length (get_or file at 0))
 
 module _ (file : List ℕ) (at : ℕ) (m : Model) (h : at < length file) where
-  pub record_inside : (read_record (drop at file) at m).step ≡ Step.More → next file at ≤ length file
+  pub record_inside : (read_record (drop at file) at m).step ≡ Ok Step.More → next file at ≤ length file
   record_inside = by (read_record (drop at file) at m) (record_outcome (drop at file) at m)
     where
-      by : (r : Stepped) → Outcome (drop at file) at m r → r.step ≡ Step.More → next file at ≤ length file
+      by : (r : Stepped) → Outcome (drop at file) at m r → r.step ≡ Ok Step.More → next file at ≤ length file
       by r (Outcome.goes l t) e = omega (arith, rw (ap (λ xs. get_or xs 0 0) (drop-cons file at 0 h)) at l, length-drop at file)
       by r (Outcome.ends d l) e = let z : ◌≡◌ {A = ℕ} 0 1 = cc in absurd (omega arith)
-      by r (Outcome.stops w p) e = let z : ◌≡◌ {A = ℕ} 0 1 = cc in absurd (omega arith)
+      by r (Outcome.stops p) e = let z : ◌≡◌ {A = ℕ} 0 1 = cc in absurd (omega arith)
 
   pub read_one :
       read_from (drop at file) 0 at m
@@ -49,8 +51,8 @@ module _ (file : List ℕ) (at : ℕ) (m : Model) (h : at < length file) where
           let p : suc at + body_length x ≡ next file at = omega arith in
           skip_is (body_length x) xs (suc at) n (omega arith) ∙ rw (drop-drop (body_length x) (suc at) file, p)
       by r (Outcome.ends d l) = refl
-      by r (Outcome.stops w p) = refl
+      by r (Outcome.stops p) = refl
 
-pub read_over : (file : List ℕ) (at : ℕ) (m : Model) → length file ≤ at → read_from (drop at file) 0 at m ≡ refused 1 at m
+pub read_over : (file : List ℕ) (at : ℕ) (m : Model) → length file ≤ at → read_from (drop at file) 0 at m ≡ refused Fault.Incomplete at m
 unfolding read_from
 read_over file at m h = rw (drop_of_length-le file {i = at} h)

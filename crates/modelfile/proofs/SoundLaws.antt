@@ -99,4 +99,4 @@ sound_record rest at m s = by (read_record rest at m) (record_outcome rest at m)
     by : (r : Stepped) → Outcome rest at m r → Sound r.model
     by r (Outcome.goes {n} l t) = sound_kept at m _ n s t
     by r (Outcome.ends d l) = s
-    by r (Outcome.stops w p) = s
+    by r (Outcome.stops p) = s

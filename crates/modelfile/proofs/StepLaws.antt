@@ -1,4 +1,4 @@
--- What one record does: it is due (Due), and then it is one of five steps from place to place (Taken), the end, or a refusal 1 to 9
+-- What one record does: it is due (Due), and then it is one of five steps from place to place (Taken), the end, or a refusal
 -- (Outcome), each with what its tests have shown. One law, record_outcome, follows the tests once; all other laws go by these cases.
 use Prim.Native.Nat.{ℕ, zero, suc, ◌+◌, ◌-◌, ◌<◌, ◌≤◌}
 use mathlib.Core.Path.{◌≡◌, refl, sym, ap, subst, ◌∙◌}
@@ -8,10 +8,12 @@ use native.Mathlib.Omega.{arith}
 use lib.Dec.{ltb, leb, eqb}
 use lib.ListN.{length, get_or}
 use borrow.Author.Tests.{ltb-true, ltb-false, leb-false, eqb-true, eqb-false, not-false, eq-eqb}
+use Rattle.std.specs.Prelude.{Ok}
 use Rattle.sums.specs.Lists.{some}
 use Rattle.modelfile.specs.Ends.{last_centre, last_chain, largest_window, largest_load, outside}
 use Rattle.modelfile.specs.Model.{with_size, with_window, slot, with_load, with_leaf, with_join}
 use Rattle.modelfile.specs.Records.{more, refuse, pick, chain_without_centre, centre_missing, read_size, read_window, load_in, read_load, read_leaf, read_join, read_end, body_length, pick_kinds, due, read_body, read_record}
+use Rattle.modelfile.specs.declared.Fault.{Fault}
 use Rattle.modelfile.specs.declared.Model.{Model}
 use Rattle.modelfile.specs.declared.Step.{Step}
 use Rattle.modelfile.specs.declared.Stepped.{Stepped}
@@ -101,8 +103,8 @@ pub record Ended (m : Model) : Type 0 where
 
 pub data Outcome (rest : List ℕ) (at : ℕ) (m : Model) : Stepped → Type 0 where
   goes : {n : Model} → body_length (get_or rest 0 0) < length rest → Taken at m (suc at + body_length (get_or rest 0 0)) n → Outcome rest at m (more n)
-  ends : Ended m → length rest ≡ 1 → Outcome rest at m (record { step = Step.Last; model = m })
-  stops : {number place : ℕ} → Within 1 9 number → place ≤ at + length rest → Outcome rest at m (refuse number place m)
+  ends : Ended m → length rest ≡ 1 → Outcome rest at m (record { step = Ok Step.Last; model = m })
+  stops : {fault : Fault} {place : ℕ} → place ≤ at + length rest → Outcome rest at m (refuse fault place m)
 
 -- 5 is judged at the first leaf
 first_judged : (m : Model) → (eqb m.count 0 && chain_without_centre m) ≡ false → m.count ≡ 0 → chain_without_centre m ≡ false
@@ -110,9 +112,9 @@ first_judged m e z = ap (λ t. t && chain_without_centre m) (sym (eq-eqb _ _ z))
 
 module _ (rest : List ℕ) (at : ℕ) (m : Model) where
   -- a test that refuses, or the tests after it
-  stop_or : (t : Bool) (number place : ℕ) {on : Stepped} → (1 ≤ number) × (number ≤ 9) × (place ≤ at + length rest) → (t ≡ false → Outcome rest at m on) → Outcome rest at m (pick t (refuse number place m) on)
-  stop_or true number place p k = Outcome.stops (record { low = p.0; high = p.1 }) p.2
-  stop_or false number place p k = k refl
+  stop_or : (t : Bool) (fault : Fault) (place : ℕ) {on : Stepped} → place ≤ at + length rest → (t ≡ false → Outcome rest at m on) → Outcome rest at m (pick t (refuse fault place m) on)
+  stop_or true fault place p k = Outcome.stops p
+  stop_or false fault place p k = k refl
 
   module _ (i : body_length (get_or rest 0 0) < length rest) where
     goes_to : {to : ℕ} {n : Model} → Taken at m to n → to ≡ suc at + body_length (get_or rest 0 0) → Outcome rest at m (more n)
@@ -122,34 +124,34 @@ module _ (rest : List ℕ) (at : ℕ) (m : Model) where
     unfolding read_body read_size read_window read_load read_leaf read_join read_end body_length
     body_outcome kind e (Due.size z) =
         let b : body_length (get_or rest 0 0) ≡ 2 = ap body_length e in
-        stop_or (outside 1 last_centre (get_or rest 1 0)) 3 (at + 1) (omega arith) λ f.
-        stop_or (outside 1 last_chain (get_or rest 2 0)) 3 (at + 2) (omega arith) λ g.
+        stop_or (outside 1 last_centre (get_or rest 1 0)) Fault.OutOfRange (at + 1) (omega arith) λ f.
+        stop_or (outside 1 last_chain (get_or rest 2 0)) Fault.OutOfRange (at + 2) (omega arith) λ g.
         goes_to (Taken.size _ _ z (outside-false _ _ _ f) (outside-false _ _ _ g)) (omega arith)
     body_outcome kind e (Due.window s w) =
         let b : body_length (get_or rest 0 0) ≡ 2 = ap body_length e in
-        stop_or (not (eqb (get_or rest 1 0) (m.given + 1))) 3 (at + 1) (omega arith) λ f.
-        stop_or (outside 0 largest_window (get_or rest 2 0)) 3 (at + 2) (omega arith) λ g.
+        stop_or (not (eqb (get_or rest 1 0) (m.given + 1))) Fault.OutOfRange (at + 1) (omega arith) λ f.
+        stop_or (outside 0 largest_window (get_or rest 2 0)) Fault.OutOfRange (at + 2) (omega arith) λ g.
         goes_to (Taken.window _ w (outside-false 0 largest_window _ g).high) (omega arith)
     body_outcome kind e (Due.load s w z) =
         let b : body_length (get_or rest 0 0) ≡ 4 = ap body_length e in
-        stop_or (outside 1 m.centres (get_or rest 1 0)) 3 (at + 1) (omega arith) λ f.
-        stop_or (outside 1 m.chains (get_or rest 2 0)) 3 (at + 2) (omega arith) λ g.
-        stop_or (outside 1 largest_load (load_in rest)) 3 (at + 3) (omega arith) λ h.
-        stop_or (ltb (slot (get_or rest 1 0) (get_or rest 2 0)) m.passed) 4 at (omega arith) λ o.
+        stop_or (outside 1 m.centres (get_or rest 1 0)) Fault.OutOfRange (at + 1) (omega arith) λ f.
+        stop_or (outside 1 m.chains (get_or rest 2 0)) Fault.OutOfRange (at + 2) (omega arith) λ g.
+        stop_or (outside 1 largest_load (load_in rest)) Fault.OutOfRange (at + 3) (omega arith) λ h.
+        stop_or (ltb (slot (get_or rest 1 0) (get_or rest 2 0)) m.passed) Fault.OutOfOrder at (omega arith) λ o.
         goes_to (Taken.load _ _ _ z (outside-false _ _ _ f) (outside-false _ _ _ g) (outside-false _ _ _ h) (ltb-false _ _ o)) (omega arith)
     body_outcome kind e (Due.leaf s w) =
         let b : body_length (get_or rest 0 0) ≡ 1 = ap body_length e in
-        stop_or (outside 1 m.centres (get_or rest 1 0)) 3 (at + 1) (omega arith) λ f.
-        stop_or (eqb m.count 0 && chain_without_centre m) 5 at (omega arith) λ g.
-        stop_or (not (eqb (get_or m.placed (get_or rest 1 0 - 1) 0) 0)) 6 (at + 1) (omega arith) λ h.
+        stop_or (outside 1 m.centres (get_or rest 1 0)) Fault.OutOfRange (at + 1) (omega arith) λ f.
+        stop_or (eqb m.count 0 && chain_without_centre m) Fault.ChainWithoutCentre at (omega arith) λ g.
+        stop_or (not (eqb (get_or m.placed (get_or rest 1 0 - 1) 0) 0)) Fault.CentreAgain (at + 1) (omega arith) λ h.
         goes_to (Taken.leaf _ w (outside-false _ _ _ f) (first_judged m g) (eqb-true _ _ (not-false _ h))) (omega arith)
     body_outcome kind e (Due.join s w n) =
         let b : body_length (get_or rest 0 0) ≡ 0 = ap body_length e in
-        stop_or (ltb m.trees 2) 7 at (omega arith) λ f.
+        stop_or (ltb m.trees 2) Fault.TooFewSubtrees at (omega arith) λ f.
         goes_to (Taken.join n (ltb-false _ _ f)) (omega arith)
     body_outcome kind e (Due.end s w n) =
-        stop_or (not (eqb m.trees 1) || centre_missing m) 8 at (omega arith) λ f.
-        stop_or (ltb 1 (length rest)) 9 (at + 1) (omega arith) λ g.
+        stop_or (not (eqb m.trees 1) || centre_missing m) Fault.NotOneTree at (omega arith) λ f.
+        stop_or (ltb 1 (length rest)) Fault.PastTheEnd (at + 1) (omega arith) λ g.
         let r = either_false (not (eqb m.trees 1)) (centre_missing m) f in
         let l = ltb-false 1 (length rest) g in
         Outcome.ends (record { centres_some = s; windows_given = w; nodes_some = n; one_left = eqb-true _ _ (not-false _ r.0); all_placed = r.1 }) (omega arith)
@@ -158,6 +160,6 @@ module _ (rest : List ℕ) (at : ℕ) (m : Model) where
   unfolding read_record
   record_outcome =
       let kind = get_or rest 0 0 in
-      stop_or (not (some (eqb kind) (due m))) 2 at (omega arith) λ d.
-      stop_or (leb (length rest) (body_length kind)) 1 (at + length rest) (omega arith) λ i.
+      stop_or (not (some (eqb kind) (due m))) Fault.NotDue at (omega arith) λ d.
+      stop_or (leb (length rest) (body_length kind)) Fault.Incomplete (at + length rest) (omega arith) λ i.
       body_outcome (leb-false _ _ i) kind refl (due_is m kind (not-false _ d))

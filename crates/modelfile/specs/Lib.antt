@@ -1,5 +1,6 @@
 pub mod Ends
 pub mod Model
+pub mod Refusals
 pub mod Records
 pub mod File
 pub mod Part

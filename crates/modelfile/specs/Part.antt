@@ -1,13 +1,13 @@
 -- The tree part of a file: "handed back as the caller's own bytes, from the first leaf up to but without the end record".
-use Rattle.std.specs.Prelude.{ℕ, ◌+◌, ◌-◌, ◌≡◌, List, [], length, take, drop}
+use Rattle.std.specs.Prelude.{ℕ, ◌+◌, ◌-◌, ◌≡◌, ⊤, List, [], length, take, drop, Result, Ok, Err}
 use Rattle.std.specs.Borrow.{Bor}
 use Rattle.modelfile.specs.File.{read_file}
-use Rattle.modelfile.specs.declared.Verdict.{Verdict}
+use Rattle.modelfile.specs.declared.Refusal.{Refusal}
 
 -- the end record is the last byte; "the empty part" where the file is refused
-abbrev pub part_if : Verdict → List ℕ → List ℕ
-part_if Verdict.Accepted part = part
-part_if (Verdict.Refused number place) part = []
+abbrev pub part_if : Result ⊤ Refusal → List ℕ → List ℕ
+part_if (Ok u) part = part
+part_if (Err r) part = []
 
 unfoldable pub tree_part : List ℕ → List ℕ
 tree_part file =
@@ -15,9 +15,9 @@ tree_part file =
     part_if r.verdict (take (length file - 1 - r.model.first) (drop r.model.first file))
 
 -- where that part begins in the file; the empty part of a refused file at 0
-abbrev pub from_if : Verdict → ℕ → ℕ
-from_if Verdict.Accepted first = first
-from_if (Verdict.Refused number place) first = 0
+abbrev pub from_if : Result ⊤ Refusal → ℕ → ℕ
+from_if (Ok u) first = first
+from_if (Err r) first = 0
 
 unfoldable pub part_from : List ℕ → ℕ
 part_from file =

@@ -24,29 +24,51 @@ pub struct Model {
     pub placed: [usize; 16],
 }
 
-// What one record says of the rest of the file.
+// Why a file is refused; document 01's numbers for these stand in specs/Refusals.antt.
+#[derive(Clone, Copy, PartialEq, Eq)]
+pub enum Fault {
+    // the bytes end before the due record does
+    Incomplete,
+    // a kind that isn't due
+    NotDue,
+    // a field outside its range
+    OutOfRange,
+    // a load not above the one before in order
+    OutOfOrder,
+    // some chain has no centre
+    ChainWithoutCentre,
+    // a centre already in the tree
+    CentreAgain,
+    // a join with fewer than two subtrees
+    TooFewSubtrees,
+    // not one subtree, or a centre missing
+    NotOneTree,
+    // bytes after the end
+    PastTheEnd,
+}
+
+#[derive(Clone, Copy, PartialEq, Eq)]
+pub struct Refusal {
+    pub fault: Fault,
+    pub place: usize,
+}
+
+// What one record says of the rest of the file, where it is not refused.
 #[derive(Clone, Copy)]
 pub enum Step {
     More,
     Last,
-    Refused { number: usize, place: usize },
 }
 
 #[derive(Clone, Copy)]
 pub struct Stepped {
-    pub step: Step,
+    pub step: Result<Step, Refusal>,
     pub model: Model,
 }
 
-// What the whole file is; where it is refused, the model holds what came before.
-#[derive(Clone, Copy)]
-pub enum Verdict {
-    Accepted,
-    Refused { number: usize, place: usize },
-}
-
+// What the whole file is. Where it is refused, the model holds what came before, so it stands beside the verdict.
 #[derive(Clone, Copy)]
 pub struct Reading {
-    pub verdict: Verdict,
+    pub verdict: Result<(), Refusal>,
     pub model: Model,
 }
