@@ -8,12 +8,16 @@ use mathlib.Core.List.{List, [], ◌∷◌, ◌++◌}
 use native.Mathlib.Omega.{arith}
 use lib.Dec.{ltb}
 use lib.ListN.{length, get_or, take, drop, replicate}
+use Rattle.modelfile.specs.Refusals.{fault_number}
+use Rattle.calls.specs.Answers.{number_of, place_of, sheet_numbers}
+use Rattle.calls.specs.declared.SheetNumbers.{SheetNumbers}
+use Rattle.modelfile.specs.declared.Refusal.{Refusal as FileRefusal}
 use Rattle.sums.specs.Lists.{some}
 use Rattle.modelfile.specs.File.{read_file}
 use Rattle.modelfile.specs.Part.{tree_part}
 use Rattle.modelfile.specs.Network.{windows_of}
 use Rattle.modelfile.specs.declared.Model.{Model}
-use Rattle.modelfile.specs.declared.Verdict.{Verdict}
+use Rattle.std.specs.Prelude.{⊤, Result, Ok, Err}
 use Rattle.modelfile.proofs.PartLaws.{part_refused, part_accepted, part_length, from_refused, from_accepted}
 use Rattle.modelfile.proofs.WalkLaws.{refused_range}
 use Rattle.calls.specs.Answers.{tell, plan_numbers, start_numbers, advance_numbers, no_sheet, part_numbers}
@@ -24,9 +28,8 @@ use Rattle.calls.specs.Start.{no_room, too_large, no_start, start_in, start}
 use Rattle.calls.specs.Advance.{no_advance, advance_in, advance}
 use Rattle.calls.specs.Sheet.{full_value, numerators, busiest, full_sheet, sheet_in, sheet}
 use Rattle.calls.specs.Spending.{Spending, GoesOn}
-use Rattle.calls.specs.declared.PlanAnswer.{PlanAnswer}
-use Rattle.calls.specs.declared.AdvanceAnswer.{AdvanceAnswer}
-use Rattle.calls.specs.declared.SheetAnswer.{SheetAnswer}
+use Rattle.calls.specs.Answers.{planned_as}
+use Rattle.calls.specs.Answers.{stopped_at}
 use Rattle.calls.proofs.ExactLaws.{room_none}
 use Rattle.calls.proofs.GrantedLaws.{planned}
 use Rattle.calls.proofs.SpendingLaws.{advance_spending, goes_on}
@@ -36,7 +39,7 @@ use Rattle.calls.proofs.PastLaws.{start_past, advance_past, sheet_past}
 -- ---- the statement
 
 -- "A refusal returns zeros beside its number and place": in the sheet
-abbrev pub sheet_refused : ℕ → ℕ → SheetAnswer
+abbrev pub sheet_refused : ℕ → ℕ → SheetNumbers
 sheet_refused number place =
     record { refusal = number; place = place; value = 0; pairs = 0; cells = 0; chains = 0; numerators = 0 ∷ 0 ∷ 0 ∷ 0 ∷ 0 ∷ 0 ∷ 0 ∷ 0 ∷ []; busiest = 0 }
 
@@ -47,7 +50,7 @@ pub record FileRefused (file : List ℕ) (number place : ℕ) : Type 0 where
   pub started : (lower : ℕ) (area : List ℕ) → tell start_numbers (start file lower area) ≡ record { answer = record { refusal = number; place = place }; area = area }
   pub advanced : (lower done budget : ℕ) (area : List ℕ) → tell advance_numbers (advance file lower done budget area)
       ≡ record { answer = record { refusal = number; place = place; done = 0; value = 0 }; area = area }
-  pub sheeted : (area : List ℕ) → sheet file area ≡ record { answer = sheet_refused number place; area = area }
+  pub sheeted : (area : List ℕ) → tell sheet_numbers (sheet file area) ≡ record { answer = sheet_refused number place; area = area }
   pub part : tree_part file ≡ []
   pub part_place : part_numbers file ≡ record { from = 0; length = 0 }
 
@@ -71,13 +74,13 @@ pub record FileAccepted (file : List ℕ) (m : Model) : Type 0 where
       → tell advance_numbers (advance file lower done budget area) ≡ record { answer = record { refusal = number; place = 0; done = 0; value = 0 }; area = area }
   -- "Advance at 14 returns the pairs done before the failing one and keeps them in the area": from any number done and any contents, which pairs are
   -- done and kept, which pair would have reached 2^64, and what is told (specs/Spending)
-  pub advanced : (lower done budget : ℕ) (area : List ℕ) (cells pairs : ℕ) → plan file lower ≡ PlanAnswer.Planned cells pairs → cells ≤ 8192 → cells ≤ length area → done ≤ pairs
+  pub advanced : (lower done budget : ℕ) (area : List ℕ) (cells pairs : ℕ) → plan file lower ≡ planned_as cells pairs → cells ≤ 8192 → cells ≤ length area → done ≤ pairs
       → Spending m (run_windows m lower) done budget budget area (advance file lower done budget area)
-  pub goes_on : (lower done budget : ℕ) (area : List ℕ) (d : ℕ) → (advance file lower done budget area).answer ≡ AdvanceAnswer.Stopped d
+  pub goes_on : (lower done budget : ℕ) (area : List ℕ) (d : ℕ) → (advance file lower done budget area).answer ≡ stopped_at d
       → GoesOn file lower d (advance file lower done budget area).area
   -- "The sheet at 14 or 15 leaves the model's cells 0", as an accepted one does; 12 leaves the area untouched
   pub sheeted : (area : List ℕ) → (let windows = windows_of m in let zeros = replicate (cells_in m windows) 0 ++ drop (cells_in m windows) area in
-      sheet file area
+      tell sheet_numbers (sheet file area)
       ≡ first_of ((12, no_room (cells_in m windows) area) ∷ []) (λ number. record { answer = sheet_refused number 0; area = area })
       (first_of ((14, too_large (full_value m)) ∷ (15, some too_large (numerators m)) ∷ []) (λ number. record { answer = sheet_refused number 0; area = zeros })
       (record {
@@ -93,29 +96,29 @@ pub record FileAccepted (file : List ℕ) (m : Model) : Type 0 where
   pub part_place : part_numbers file ≡ record { from = m.first; length = length file - 1 - m.first }
 
 pub record Demand1 (file : List ℕ) : Type 0 where
-  pub either : ((read_file file).verdict ≡ Verdict.Accepted) ⊎ ((number : ℕ) × (place : ℕ) × ((read_file file).verdict ≡ Verdict.Refused number place))
-  pub refused : (number place : ℕ) → (read_file file).verdict ≡ Verdict.Refused number place → FileRefused file number place
-  pub accepted : (read_file file).verdict ≡ Verdict.Accepted → FileAccepted file (model_of file)
+  pub either : ((read_file file).verdict ≡ Ok tt) ⊎ ((r : FileRefusal) × ((read_file file).verdict ≡ Err r))
+  pub refused : (r : FileRefusal) → (read_file file).verdict ≡ Err r → FileRefused file (fault_number r.fault) r.place
+  pub accepted : (read_file file).verdict ≡ Ok tt → FileAccepted file (model_of file)
 
 -- ---- the proof
 
-file_refused : (file : List ℕ) (number place : ℕ) → (read_file file).verdict ≡ Verdict.Refused number place → FileRefused file number place
-unfolding plan start advance sheet ask plan_numbers start_numbers advance_numbers no_sheet part_numbers
-file_refused file number place e = record {
-  range = refused_range file number place e;
-  planned = λ lower i. plan_numbers (on_granted (on_verdict (e i) (lowering (model_of file) lower)) (λ number place. PlanAnswer.Refused number place) (λ m windows. PlanAnswer.Planned (cells_in m windows) (pairs_in m windows)));
-  started = λ lower area i. tell start_numbers (on_granted (on_verdict (e i) (lowering (model_of file) lower)) (λ number place. no_start number place area) (λ m windows. start_in m windows area));
-  advanced = λ lower done budget area i. tell advance_numbers (on_granted (on_verdict (e i) (lowering (model_of file) lower)) (λ number place. no_advance number place area) (λ m windows. advance_in m windows done budget area));
-  sheeted = λ area i. on_granted (on_verdict (e i) (lowering (model_of file) 0)) (λ number place. record { answer = no_sheet number place; area = area }) (λ m windows. sheet_in m windows area);
-  part = part_refused file number place e;
-  part_place = λ i. record { from = from_refused file number place e i; length = length (part_refused file number place e i) };
+file_refused : (file : List ℕ) (r : FileRefusal) → (read_file file).verdict ≡ Err r → FileRefused file (fault_number r.fault) r.place
+unfolding plan start advance sheet ask plan_numbers start_numbers advance_numbers sheet_numbers number_of place_of no_sheet part_numbers
+file_refused file r e = record {
+  range = refused_range file r e;
+  planned = λ lower i. plan_numbers (on_granted (on_verdict (e i) (lowering (model_of file) lower)) (λ r. Err r) (λ m windows. planned_as (cells_in m windows) (pairs_in m windows)));
+  started = λ lower area i. tell start_numbers (on_granted (on_verdict (e i) (lowering (model_of file) lower)) (λ r. no_start r area) (λ m windows. start_in m windows area));
+  advanced = λ lower done budget area i. tell advance_numbers (on_granted (on_verdict (e i) (lowering (model_of file) lower)) (λ r. no_advance r area) (λ m windows. advance_in m windows done budget area));
+  sheeted = λ area i. tell sheet_numbers (on_granted (on_verdict (e i) (lowering (model_of file) 0)) (λ r. record { answer = Err r; area = area }) (λ m windows. sheet_in m windows area));
+  part = part_refused file r e;
+  part_place = λ i. record { from = from_refused file r e i; length = length (part_refused file r e i) };
 }
 
-part_size : (file : List ℕ) → (read_file file).verdict ≡ Verdict.Accepted → length (tree_part file) ≡ length file - 1 - (model_of file).first
+part_size : (file : List ℕ) → (read_file file).verdict ≡ Ok tt → length (tree_part file) ≡ length file - 1 - (model_of file).first
 part_size file e = omega (arith, part_length file e)
 
-file_accepted : (file : List ℕ) → (read_file file).verdict ≡ Verdict.Accepted → FileAccepted file (model_of file)
-unfolding no_sheet full_sheet part_numbers
+file_accepted : (file : List ℕ) → (read_file file).verdict ≡ Ok tt → FileAccepted file (model_of file)
+unfolding no_sheet full_sheet sheet_numbers part_numbers
 file_accepted file e = record {
   planned = plan_all file e;
   started = start_all file e;
@@ -136,6 +139,6 @@ file_accepted file e = record {
 pub demand_1 : (file : List ℕ) → Demand1 file
 demand_1 file = record { either = by (read_file file).verdict; refused = file_refused file; accepted = file_accepted file }
   where
-    by : (v : Verdict) → (v ≡ Verdict.Accepted) ⊎ ((number : ℕ) × (place : ℕ) × (v ≡ Verdict.Refused number place))
-    by Verdict.Accepted = inl refl
-    by (Verdict.Refused number place) = inr (number, place, refl)
+    by : (v : Result ⊤ FileRefusal) → (v ≡ Ok tt) ⊎ ((r : FileRefusal) × (v ≡ Err r))
+    by (Ok u) = inl refl
+    by (Err r) = inr (r, refl)

@@ -9,6 +9,7 @@ use native.Mathlib.Omega.{arith}
 use lib.Dec.{ltb, eqb}
 use lib.ListN.{length, get_or}
 use borrow.Author.Tests.{eq-eqb, lt-ltb}
+use Rattle.calls.specs.Answers.{number_of}
 use Rattle.sums.specs.Choice.{choose}
 use Rattle.sums.specs.Lists.{some}
 use Rattle.sums.specs.Sums.{sum_over}
@@ -18,15 +19,16 @@ use Rattle.network.proofs.ValueLaws.{G_perm, value-G}
 use Rattle.network.proofs.BoundLaws as bound-laws
 use Rattle.modelfile.specs.Network.{centres_of}
 use Rattle.modelfile.specs.declared.Model.{Model}
+use Rattle.calls.specs.declared.Refusal.{Refusal}
 use Rattle.calls.specs.Answers.{Left, advance_numbers}
 use Rattle.calls.specs.Asked.{ask, granted, model_of, windows_for, cells_in, pairs_in, filled_by}
 use Rattle.calls.specs.Plan.{plan}
 use Rattle.calls.specs.Start.{no_room, too_large, start}
 use Rattle.calls.specs.Advance.{no_advance, value_at, told}
 use Rattle.calls.specs.Slots.{sum, last_of, run}
-use Rattle.calls.specs.declared.PlanAnswer.{PlanAnswer}
-use Rattle.calls.specs.declared.StartAnswer.{StartAnswer}
-use Rattle.calls.specs.declared.AdvanceAnswer.{AdvanceAnswer}
+use Rattle.calls.specs.Answers.{planned_as}
+use Rattle.calls.specs.Answers.{is_started}
+use Rattle.calls.specs.Answers.{AdvanceAnswer, advanced_to, stopped_at}
 use Rattle.calls.proofs.FileLaws.{Fit, granted_fit}
 use Rattle.calls.proofs.GrantedLaws.{planned, begun}
 use Rattle.calls.proofs.SlotLaws.{spent}
@@ -49,14 +51,14 @@ pub record Gives14 (file : List ℕ) (lower : ℕ) (area : List ℕ) (b : ℕ) (
 
 pub record Demand2 (file : List ℕ) (lower cells pairs : ℕ) (area : List ℕ) (b : ℕ) (bs : List ℕ) : Type 0 where
   -- "Its value is the sum .., exactly"; it stands in the model's last cell, and is at least 1
-  pub answered : exact file lower < 2 ^ 64 → (run file lower b bs area).answer ≡ AdvanceAnswer.Advanced pairs (exact file lower)
+  pub answered : exact file lower < 2 ^ 64 → (run file lower b bs area).answer ≡ advanced_to pairs (exact file lower)
   pub last_cell : exact file lower < 2 ^ 64 → get_or (run file lower b bs area).area (cells - 1) 0 ≡ exact file lower
   pub at_least_one : 1 ≤ exact file lower
   -- "'Too large' (14) is given by a run exactly when that sum is 2^64 or more"
   pub is_too_large : 2 ^ 64 ≤ exact file lower → Gives14 file lower area b bs
   pub only_then : Gives14 file lower area b bs → 2 ^ 64 ≤ exact file lower
   -- "no needed cell exceeds G(N)", where the start was accepted
-  pub never_above : (start file lower area).answer ≡ StartAnswer.Started → (i : ℕ) → i < cells → get_or (run file lower b bs area).area i 0 ≤ exact file lower
+  pub never_above : (start file lower area).answer ≡ is_started → (i : ℕ) → i < cells → get_or (run file lower b bs area).area i 0 ≤ exact file lower
 
 -- ---- the proof
 
@@ -94,11 +96,11 @@ module _ (file : List ℕ) (lower : ℕ) (m : Model) (windows : List ℕ) (asked
   abbrev closing : ℕ → Bool → Left AdvanceAnswer
   closing n told =
       let p = spent m windows 0 n (started_area m windows area) in
-      choose told (λ u. record { answer = AdvanceAnswer.Stopped p.done; area = p.area }) λ u.
-      record { answer = AdvanceAnswer.Advanced p.done (value_at m windows p.done p.area); area = p.area }
+      choose told (λ u. record { answer = stopped_at p.done; area = p.area }) λ u.
+      record { answer = advanced_to p.done (value_at m windows p.done p.area); area = p.area }
 
   ended : ℕ → ℕ → Bool → Bool → Left AdvanceAnswer
-  ended n last leaf stopped = choose leaf (λ u. no_advance 14 0 area) (λ u. closing n (stopped && ltb 0 last))
+  ended n last leaf stopped = choose leaf (λ u. no_advance Refusal.TooLarge area) (λ u. closing n (stopped && ltb 0 last))
 
   ends : (b : ℕ) (bs : List ℕ) → run file lower b bs area ≡ ended (b + sum bs) (last_of b bs) (some too_large (filled_by m windows)) (begun-at (b + sum bs)).stopped
   unfolding ended begun-at told
@@ -106,12 +108,12 @@ module _ (file : List ℕ) (lower : ℕ) (m : Model) (windows : List ℕ) (asked
 
   -- 14 comes only where the value is 2^64 or more, whatever the budgets
   only_large : (b : ℕ) (bs : List ℕ) → (advance_numbers (run file lower b bs area).answer).refusal ≡ 14 → 2 ^ 64 ≤ value (centres_of m) windows
-  unfolding begun-at ended advance_numbers
+  unfolding begun-at ended advance_numbers number_of
   only_large b bs e =
       by (some too_large (filled_by m windows)) (begun-at (b + sum bs)).stopped (ltb 0 (last_of b bs)) refl refl (sym (ap (λ r. (advance_numbers r.answer).refusal) (ends b bs)) ∙ e)
     where
       at : Bool → Bool → Left AdvanceAnswer
-      at leaf told = choose leaf (λ u. no_advance 14 0 area) (λ u. closing (b + sum bs) told)
+      at leaf told = choose leaf (λ u. no_advance Refusal.TooLarge area) (λ u. closing (b + sum bs) told)
 
       by : (leaf stopped last : Bool) → some too_large (filled_by m windows) ≡ leaf → (begun-at (b + sum bs)).stopped ≡ stopped → (advance_numbers (at leaf (stopped && last)).answer).refusal ≡ 14 → 2 ^ 64 ≤ value (centres_of m) windows
       by true stopped last x y d = leaf_high m windows f area held x
@@ -125,7 +127,7 @@ module _ (file : List ℕ) (lower : ℕ) (m : Model) (windows : List ℕ) (asked
       subst (λ r. get_or r.area i 0 ≤ value (centres_of m) windows) (sym (ends b bs)) (by (some too_large (filled_by m windows)) ((begun-at (b + sum bs)).stopped && ltb 0 (last_of b bs)) low)
     where
       at : Bool → Bool → Left AdvanceAnswer
-      at leaf told = choose leaf (λ u. no_advance 14 0 area) (λ u. closing (b + sum bs) told)
+      at leaf told = choose leaf (λ u. no_advance Refusal.TooLarge area) (λ u. closing (b + sum bs) told)
 
       by : (leaf told : Bool) → leaf ≡ false → get_or (at leaf told).area i 0 ≤ value (centres_of m) windows
       by true told x = absurd (true≢false x)
@@ -144,7 +146,7 @@ module _ (file : List ℕ) (lower : ℕ) (m : Model) (windows : List ℕ) (asked
         by false false x y = (x, y)
 
     went_ends : value (centres_of m) windows < 2 ^ 64
-        → run file lower b bs area ≡ record { answer = AdvanceAnswer.Advanced (pairs_in m windows) (value (centres_of m) windows); area = (begun-at (b + sum bs)).area }
+        → run file lower b bs area ≡ record { answer = advanced_to (pairs_in m windows) (value (centres_of m) windows); area = (begun-at (b + sum bs)).area }
     unfolding value_at begun-at ended
     went_ends low =
         let w = went_on low in
@@ -153,12 +155,12 @@ module _ (file : List ℕ) (lower : ℕ) (m : Model) (windows : List ℕ) (asked
         let left = (begun-at (b + sum bs)).area in
         ends b bs
         ∙ (λ i. ended (b + sum bs) (last_of b bs) (w.0 i) (w.1 i))
-        ∙ (λ i. record { answer = AdvanceAnswer.Advanced (d i) (choose (eqb (d i) (pairs_in m windows)) (λ u. get_or left (cells_in m windows - 1) 0) (λ u. 0)); area = left })
-        ∙ (λ i. record { answer = AdvanceAnswer.Advanced (pairs_in m windows) (choose (eq-eqb (pairs_in m windows) (pairs_in m windows) refl i) (λ u. v i) (λ u. 0)); area = left })
+        ∙ (λ i. record { answer = advanced_to (d i) (choose (eqb (d i) (pairs_in m windows)) (λ u. get_or left (cells_in m windows - 1) 0) (λ u. 0)); area = left })
+        ∙ (λ i. record { answer = advanced_to (pairs_in m windows) (choose (eq-eqb (pairs_in m windows) (pairs_in m windows) refl i) (λ u. v i) (λ u. 0)); area = left })
 
     -- from 2^64 on, the start is refused, or the last budget that is not 0 is stopped
     large_ends : 2 ^ 64 ≤ value (centres_of m) windows → Gives14 file lower area b bs
-    unfolding begun-at ended advance_numbers
+    unfolding begun-at ended advance_numbers number_of
     large_ends high = by (some too_large (filled_by m windows)) (begun-at (b + sum bs)).stopped refl refl
       where
         by : (leaf stopped : Bool) → some too_large (filled_by m windows) ≡ leaf → (begun-at (b + sum bs)).stopped ≡ stopped → Gives14 file lower area b bs
@@ -181,7 +183,7 @@ module _ (file : List ℕ) (lower : ℕ) (m : Model) (windows : List ℕ) (asked
     at_least_one_in : 1 ≤ value (centres_of m) windows
     at_least_one_in = rw (value-G (centres_of m) (λ c k. (f.wide c k).1) windows) (bound-laws.value_some (centres_of m) (length windows) f.wide f.on f.visited windows refl)
 
-pub demand_2 : (file : List ℕ) (lower cells pairs : ℕ) (area : List ℕ) → plan file lower ≡ PlanAnswer.Planned cells pairs → cells ≤ 8192 → cells ≤ length area
+pub demand_2 : (file : List ℕ) (lower cells pairs : ℕ) (area : List ℕ) → plan file lower ≡ planned_as cells pairs → cells ≤ 8192 → cells ≤ length area
     → (b : ℕ) (bs : List ℕ) → pairs ≤ b + sum bs → Demand2 file lower cells pairs area b bs
 unfolding begun-at
 demand_2 file lower cells pairs area told small fits b bs reach =
@@ -191,7 +193,7 @@ demand_2 file lower cells pairs area told small fits b bs reach =
     let room : no_room (cells_in m windows) area ≡ false = room_none (cells_in m windows) area (subst (λ n. n ≤ 8192) p.cells_are small) (subst (λ n. n ≤ length area) p.cells_are fits) in
     let enough : pairs_in m windows ≤ b + sum bs = subst (λ n. n ≤ b + sum bs) p.pairs_are reach in
     record {
-      answered = λ low. ap (λ r. r.answer) (went_ends file lower m windows p.asked area room b bs enough low) ∙ ap (λ n. AdvanceAnswer.Advanced n (value (centres_of m) windows)) (sym p.pairs_are);
+      answered = λ low. ap (λ r. r.answer) (went_ends file lower m windows p.asked area room b bs enough low) ∙ ap (λ n. advanced_to n (value (centres_of m) windows)) (sym p.pairs_are);
       last_cell = λ low.
           ap (λ n. get_or (run file lower b bs area).area (n - 1) 0) p.cells_are
           ∙ ap (λ r. get_or r.area (cells_in m windows - 1) 0) (went_ends file lower m windows p.asked area room b bs enough low)

@@ -20,7 +20,8 @@ use Rattle.network.proofs.CountLaws.{pairs_plain, plain_below}
 use Rattle.modelfile.specs.File.{read_file}
 use Rattle.modelfile.specs.Network.{centres_of, tree_of}
 use Rattle.modelfile.specs.declared.Model.{Model}
-use Rattle.modelfile.specs.declared.Verdict.{Verdict}
+use Rattle.std.specs.Prelude.{Ok, Err}
+use Rattle.calls.specs.declared.Refusal.{Refusal}
 use Rattle.calls.specs.Answers.{Left}
 use Rattle.calls.specs.Asked.{ask, granted, on_granted, model_of, windows_for, cells_in, pairs_in}
 use Rattle.calls.specs.Plan.{plan, SameButLoads}
@@ -28,9 +29,9 @@ use Rattle.calls.specs.Start.{no_start, start}
 use Rattle.calls.specs.Advance.{no_advance}
 use Rattle.calls.specs.Slots.{sum, last_of, run}
 use Rattle.calls.specs.Spending.{Spending, GoesOn}
-use Rattle.calls.specs.declared.PlanAnswer.{PlanAnswer}
-use Rattle.calls.specs.declared.StartAnswer.{StartAnswer}
-use Rattle.calls.specs.declared.AdvanceAnswer.{AdvanceAnswer}
+use Rattle.calls.specs.Answers.{planned_as}
+use Rattle.calls.specs.Answers.{StartAnswer, is_started}
+use Rattle.calls.specs.Answers.{stopped_at}
 use Rattle.calls.proofs.FileLaws.{granted_fit, granted-from, length_routes}
 use Rattle.calls.proofs.GrantedLaws.{Begun, begun}
 use Rattle.calls.proofs.SlotLaws.{listed_pairs, spent, told_last}
@@ -44,7 +45,7 @@ use Rattle.calls.proofs.LoadLaws.{loads_free}
 pub record PairsKnown (file : List ℕ) (lower : ℕ) : Type 0 where
   -- plan tells the product formula, summed over the joins; its arguments are routes, windows and tree
   pub planned : (let m = model_of file in let routes = routes_of (centres_of m) in let windows = windows_for file lower in
-      plan file lower ≡ PlanAnswer.Planned (all_cells routes windows (tree_of m)) (all_pairs routes windows (tree_of m)))
+      plan file lower ≡ planned_as (all_cells routes windows (tree_of m)) (all_pairs routes windows (tree_of m)))
   -- it is the length of the listed order
   pub listed_so : length (listed (routes_of (centres_of (model_of file))) (windows_for file lower) (tree_of (model_of file)) 0) ≡ pairs_in (model_of file) (windows_for file lower)
   pub plain : pairs_in (model_of file) (windows_for file lower) ≤ plain_pairs (model_of file).centres (windows_for file lower)
@@ -52,7 +53,7 @@ pub record PairsKnown (file : List ℕ) (lower : ℕ) : Type 0 where
   pub low : pairs_in (model_of file) (windows_for file lower) < 2 ^ 63
   pub plain_low : plain_pairs (model_of file).centres (windows_for file lower) < 2 ^ 63
   -- another file that differs in loads only has the same plan
-  pub loads_free : (other : List ℕ) → (read_file other).verdict ≡ Verdict.Accepted → SameButLoads (model_of file) (model_of other) → plan file lower ≡ plan other lower
+  pub loads_free : (other : List ℕ) → (read_file other).verdict ≡ Ok tt → SameButLoads (model_of file) (model_of other) → plan file lower ≡ plan other lower
 
 pub record Demand3 (file : List ℕ) (lower : ℕ) (area : List ℕ) : Type 0 where
   -- after budgets b and then bs, zeros too: the first b + sum bs pairs from the start's area, or all; the number done; the value; only a pair that would
@@ -61,7 +62,7 @@ pub record Demand3 (file : List ℕ) (lower : ℕ) (area : List ℕ) : Type 0 wh
   -- how the budgets are cut up makes no difference
   pub cut_up : (b : ℕ) (bs : List ℕ) (c : ℕ) (cs : List ℕ) → b + sum bs ≡ c + sum cs → (run file lower b bs area).area ≡ (run file lower c cs area).area
   -- a board may go on after 14 (specs/Spending)
-  pub goes_on : (b : ℕ) (bs : List ℕ) (done : ℕ) → (run file lower b bs area).answer ≡ AdvanceAnswer.Stopped done → GoesOn file lower done (run file lower b bs area).area
+  pub goes_on : (b : ℕ) (bs : List ℕ) (done : ℕ) → (run file lower b bs area).answer ≡ stopped_at done → GoesOn file lower done (run file lower b bs area).area
   pub pairs : PairsKnown file lower
 
 -- ---- the proof
@@ -76,7 +77,7 @@ pairs_known file lower asked =
     let p : pairs_in m windows ≤ plain_pairs m.centres windows = subst (λ n. pairs_in m windows ≤ plain_pairs n windows) (length_routes m g) (pairs_plain (routes_of (centres_of m)) windows (tree_of m) f.every) in
     let l : plain_pairs m.centres windows < 2 ^ 63 = plain_below m.centres windows g.centres_range.1 f.windows_few (λ n k. low_member windows 15 f.windows_low n k) in
     record {
-      planned = ap (λ a. on_granted a (λ number place. PlanAnswer.Refused number place) (λ m windows. PlanAnswer.Planned (cells_in m windows) (pairs_in m windows))) asked;
+      planned = ap (λ a. on_granted a (λ r. Err r) (λ m windows. planned_as (cells_in m windows) (pairs_in m windows))) asked;
       listed_so = listed_pairs m windows f;
       plain = p;
       low = lt_of_le_of_lt p l;
@@ -84,7 +85,7 @@ pairs_known file lower asked =
       loads_free = λ other v s. loads_free file other (granted-from file lower m windows asked).0 v s lower;
     }
 
-module _ (file : List ℕ) (lower : ℕ) (area : List ℕ) (started : (start file lower area).answer ≡ StartAnswer.Started) where
+module _ (file : List ℕ) (lower : ℕ) (area : List ℕ) (started : (start file lower area).answer ≡ is_started) where
   b₀ : Begun file lower area
   b₀ = begun file lower area started
 
@@ -98,12 +99,12 @@ module _ (file : List ℕ) (lower : ℕ) (area : List ℕ) (started : (start fil
   start_area : (start file lower area).area ≡ started_area M W area
   start_area =
       ap (λ s. s.area) (start_is file lower M W b₀.asked area b₀.room)
-      ∙ ap (λ t. (choose {A = Left StartAnswer} t (λ u. no_start 14 0 area) (λ u. record { answer = StartAnswer.Started; area = started_area M W area })).area) b₀.low
+      ∙ ap (λ t. (choose {A = Left StartAnswer} t (λ u. no_start Refusal.TooLarge area) (λ u. record { answer = is_started; area = started_area M W area })).area) b₀.low
 
   run_told : (b : ℕ) (bs : List ℕ) → run file lower b bs area ≡ told_last M W (last_of b bs) (spent M W 0 (b + sum bs) (started_area M W area))
   run_told b bs =
       run_is file lower M W b₀.asked area b₀.room b bs
-      ∙ ap (λ t. choose t (λ u. no_advance 14 0 area) (λ u. told_last M W (last_of b bs) (spent M W 0 (b + sum bs) (started_area M W area)))) b₀.low
+      ∙ ap (λ t. choose t (λ u. no_advance Refusal.TooLarge area) (λ u. told_last M W (last_of b bs) (spent M W 0 (b + sum bs) (started_area M W area)))) b₀.low
 
   last_told : ℕ → Progress → Progress
   last_told last p = record { done = p.done; area = p.area; stopped = p.stopped && ltb 0 last }
@@ -116,7 +117,7 @@ module _ (file : List ℕ) (lower : ℕ) (area : List ℕ) (started : (start fil
   and_left true t e = refl
   and_left false t e = e
 
-  goes_on_so : (b : ℕ) (bs : List ℕ) (done : ℕ) → (run file lower b bs area).answer ≡ AdvanceAnswer.Stopped done → GoesOn file lower done (run file lower b bs area).area
+  goes_on_so : (b : ℕ) (bs : List ℕ) (done : ℕ) → (run file lower b bs area).answer ≡ stopped_at done → GoesOn file lower done (run file lower b bs area).area
   unfolding last_told
   goes_on_so b bs done e =
       let p = spent M W 0 (b + sum bs) (started_area M W area) in
@@ -136,5 +137,5 @@ module _ (file : List ℕ) (lower : ℕ) (area : List ℕ) (started : (start fil
     pairs = pairs_known file lower b₀.asked;
   }
 
-pub demand_3 : (file : List ℕ) (lower : ℕ) (area : List ℕ) → (start file lower area).answer ≡ StartAnswer.Started → Demand3 file lower area
+pub demand_3 : (file : List ℕ) (lower : ℕ) (area : List ℕ) → (start file lower area).answer ≡ is_started → Demand3 file lower area
 demand_3 = idle_slots

@@ -6,7 +6,7 @@ use mathlib.Core.Path.{◌≡◌, sym, ◌∙◌}
 use mathlib.Core.List.{List}
 use denote.Ref.{Bor}
 use Rattle.modelfile.specs.Part.{PartAllows}
-use Rattle.calls.specs.Promises.{PlanAllows, StartAllows, AdvanceAllows, SheetAllows, BoardPlanAllows, BoardStartAllows, BoardAdvanceAllows, BoardPartAllows}
+use Rattle.calls.specs.Promises.{PlanAllows, StartAllows, AdvanceAllows, SheetAllows, BoardPlanAllows, BoardStartAllows, BoardAdvanceAllows, BoardSheetAllows, BoardPartAllows}
 
 -- a promise of an answer alone, and one of an answer and an area
 abbrev Alone : {A : Type 0} → (A → Type 0) → Type 0
@@ -34,7 +34,7 @@ sheet_determined file area r s left other p q = (one p.0 q.0, one p.1 q.1)
 pub part_determined : (file r s : Bor (List ℕ)) → PartAllows file r → PartAllows file s → (r.now ≡ s.now) × (r.ref_ptr ≡ s.ref_ptr)
 part_determined file r s p q = (one p.0 q.0, one p.1 q.1)
 
--- ---- the calls for boards; the sheet's answer is the same there
+-- ---- the calls for boards
 
 pub board_plan_determined : (file : List ℕ) (lower : ℕ) → Alone (BoardPlanAllows file lower)
 board_plan_determined file lower r s p q = one p q
@@ -44,6 +44,9 @@ board_start_determined file lower area r s left other p q = (one p.0 q.0, one p.
 
 pub board_advance_determined : (file : List ℕ) (lower done budget : ℕ) (area : List ℕ) → Both (BoardAdvanceAllows file lower done budget area)
 board_advance_determined file lower done budget area r s left other p q = (one p.0 q.0, one p.1 q.1)
+
+pub board_sheet_determined : (file area : List ℕ) → Both (BoardSheetAllows file area)
+board_sheet_determined file area r s left other p q = (one p.0 q.0, one p.1 q.1)
 
 pub board_part_determined : (file : List ℕ) → Alone (BoardPartAllows file)
 board_part_determined file r s p q = one p q

@@ -25,12 +25,13 @@ use Rattle.network.proofs.AreaLaws.{Laid, length-spread, spread_laid, cells_some
 use Rattle.network.proofs.WholeLaws.{all_under, start_le, cell_or_sum, whole_value, whole_le}
 use Rattle.modelfile.specs.Network.{centres_of, tree_of}
 use Rattle.modelfile.specs.declared.Model.{Model}
+use Rattle.calls.specs.declared.Refusal.{Refusal}
 use Rattle.calls.specs.Asked.{granted, ask, on_granted, cells_in, pairs_in, pairs_listed, filled_by}
 use Rattle.calls.specs.Start.{no_room, too_large, no_start, start_in, start}
 use Rattle.calls.specs.Advance.{no_advance}
 use Rattle.calls.specs.Slots as slots
 use Rattle.calls.specs.Slots.{on_started, sum, last_of, advances}
-use Rattle.calls.specs.declared.StartAnswer.{StartAnswer}
+use Rattle.calls.specs.Answers.{is_started}
 use Rattle.calls.proofs.FileLaws.{Fit}
 use Rattle.calls.proofs.SlotLaws as slot_laws
 use Rattle.calls.proofs.SlotLaws.{listed_pairs, spent, told_last, room_same}
@@ -62,17 +63,17 @@ room_none cells area h k = λ i. le-ltb 8192 cells h i || le-ltb (length area) c
 -- ---- what a run answers and leaves
 
 module _ (file : List ℕ) (lower : ℕ) (m : Model) (windows : List ℕ) (asked : ask file lower ≡ granted m windows) (area : List ℕ) (room : no_room (cells_in m windows) area ≡ false) where
-  pub start_is : start file lower area ≡ choose (some too_large (filled_by m windows)) (λ u. no_start 14 0 area) (λ u. record { answer = StartAnswer.Started; area = started_area m windows area })
+  pub start_is : start file lower area ≡ choose (some too_large (filled_by m windows)) (λ u. no_start Refusal.TooLarge area) (λ u. record { answer = is_started; area = started_area m windows area })
   unfolding start start_in
   start_is =
-      ap (λ a. on_granted a (λ number place. no_start number place area) (λ m windows. start_in m windows area)) asked
-      ∙ ap (λ r. choose r (λ u. no_start 12 0 area) (λ u. choose (some too_large (filled_by m windows)) (λ u. no_start 14 0 area) (λ u. record { answer = StartAnswer.Started; area = started_area m windows area }))) room
+      ap (λ a. on_granted a (λ r. no_start r area) (λ m windows. start_in m windows area)) asked
+      ∙ ap (λ r. choose r (λ u. no_start Refusal.NoRoom area) (λ u. choose (some too_large (filled_by m windows)) (λ u. no_start Refusal.TooLarge area) (λ u. record { answer = is_started; area = started_area m windows area }))) room
 
   -- a start that is accepted found no leaf too large
-  pub started_low : (start file lower area).answer ≡ StartAnswer.Started → some too_large (filled_by m windows) ≡ false
+  pub started_low : (start file lower area).answer ≡ is_started → some too_large (filled_by m windows) ≡ false
   started_low e = by (some too_large (filled_by m windows)) refl (sym (ap (λ s. s.answer) start_is) ∙ e)
     where
-      by : (t : Bool) → some too_large (filled_by m windows) ≡ t → (choose t (λ u. no_start 14 0 area) (λ u. record { answer = StartAnswer.Started; area = started_area m windows area })).answer ≡ StartAnswer.Started → some too_large (filled_by m windows) ≡ false
+      by : (t : Bool) → some too_large (filled_by m windows) ≡ t → (choose t (λ u. no_start Refusal.TooLarge area) (λ u. record { answer = is_started; area = started_area m windows area })).answer ≡ is_started → some too_large (filled_by m windows) ≡ false
       by false p d = p
       by true p d = let z : ◌≡◌ {A = ℕ} 0 1 = cc in absurd (omega arith)
 
@@ -82,12 +83,12 @@ module _ (file : List ℕ) (lower : ℕ) (m : Model) (windows : List ℕ) (asked
 
   -- 14 at the start, or what the first pairs leave
   pub run_is : (b : ℕ) (bs : List ℕ) → slots.run file lower b bs area
-      ≡ choose (some too_large (filled_by m windows)) (λ u. no_advance 14 0 area) (λ u. told_last m windows (last_of b bs) (spent m windows 0 (b + sum bs) (started_area m windows area)))
+      ≡ choose (some too_large (filled_by m windows)) (λ u. no_advance Refusal.TooLarge area) (λ u. told_last m windows (last_of b bs) (spent m windows 0 (b + sum bs) (started_area m windows area)))
   unfolding slots.run
   run_is b bs = ap (λ s. on_started s.answer s.area (advances file lower 0 b bs s.area)) start_is ∙ by (some too_large (filled_by m windows))
     where
-      by : (t : Bool) → (let s = choose t (λ u. no_start 14 0 area) (λ u. record { answer = StartAnswer.Started; area = started_area m windows area }) in on_started s.answer s.area (advances file lower 0 b bs s.area))
-          ≡ choose t (λ u. no_advance 14 0 area) (λ u. told_last m windows (last_of b bs) (spent m windows 0 (b + sum bs) (started_area m windows area)))
+      by : (t : Bool) → (let s = choose t (λ u. no_start Refusal.TooLarge area) (λ u. record { answer = is_started; area = started_area m windows area }) in on_started s.answer s.area (advances file lower 0 b bs s.area))
+          ≡ choose t (λ u. no_advance Refusal.TooLarge area) (λ u. told_last m windows (last_of b bs) (spent m windows 0 (b + sum bs) (started_area m windows area)))
       by true = refl
       by false = slot_laws.slots file lower m windows asked bs b 0 (started_area m windows area) started_room (omega arith)
 

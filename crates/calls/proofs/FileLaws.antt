@@ -9,6 +9,7 @@ use native.Mathlib.Omega.{arith}
 use lib.Dec.{ltb, eqb}
 use lib.ListN.{length, get_or, take, drop, length-map, length-drop, length-set}
 use lib.Seq.{length-take-le, get_or-take, get_or-drop}
+use Rattle.modelfile.specs.declared.Refusal.{Refusal as FileRefusal}
 use Rattle.sums.specs.Lists.{from, by_number, some}
 use Rattle.sums.proofs.BoolLaws.{some_of}
 use Rattle.sums.proofs.ListLaws.{length_from, get_or-from, get_or-map_in, from_in, from_out}
@@ -21,9 +22,10 @@ use Rattle.network.proofs.BoundLaws.{AllVisited}
 use Rattle.modelfile.specs.File.{read_file}
 use Rattle.modelfile.specs.Network.{windows_of, loads_of, centres_of, tree_of}
 use Rattle.modelfile.specs.declared.Model.{Model}
-use Rattle.modelfile.specs.declared.Verdict.{Verdict}
+use Rattle.std.specs.Prelude.{⊤, Result, Ok, Err}
 use Rattle.modelfile.proofs.Guaranteed.{Guaranteed}
 use Rattle.modelfile.proofs.AcceptedLaws.{accepted}
+use Rattle.calls.specs.declared.Refusal.{Refusal}
 use Rattle.calls.specs.Asked.{refused, granted, pick_asked, less_one, lowering, on_verdict, ask}
 
 -- what the laws of the network ask of a model and the windows of a run
@@ -113,13 +115,13 @@ module _ (m : Model) (g : Guaranteed m) where
 -- ---- what is granted
 
 -- a granted model is that of an accepted file
-pub granted-from : (file : List ℕ) (lower : ℕ) (m : Model) (windows : List ℕ) → ask file lower ≡ granted m windows → ((read_file file).verdict ≡ Verdict.Accepted) × (lowering (read_file file).model lower ≡ granted m windows)
+pub granted-from : (file : List ℕ) (lower : ℕ) (m : Model) (windows : List ℕ) → ask file lower ≡ granted m windows → ((read_file file).verdict ≡ Ok tt) × (lowering (read_file file).model lower ≡ granted m windows)
 unfolding ask
 granted-from file lower m windows e = by (read_file file).verdict refl e
   where
-    by : (v : Verdict) → (read_file file).verdict ≡ v → on_verdict v (lowering (read_file file).model lower) ≡ granted m windows → ((read_file file).verdict ≡ Verdict.Accepted) × (lowering (read_file file).model lower ≡ granted m windows)
-    by Verdict.Accepted w f = (w, f)
-    by (Verdict.Refused number place) w f = let z : ◌≡◌ {A = ℕ} 0 1 = cc in absurd (omega arith)
+    by : (v : Result ⊤ FileRefusal) → (read_file file).verdict ≡ v → on_verdict v (lowering (read_file file).model lower) ≡ granted m windows → ((read_file file).verdict ≡ Ok tt) × (lowering (read_file file).model lower ≡ granted m windows)
+    by (Ok u) w f = (w, f)
+    by (Err r) w f = let z : ◌≡◌ {A = ℕ} 0 1 = cc in absurd (omega arith)
 
 low_set : (xs : List ℕ) (i : ℕ) (bound : ℕ) → ((k : ℕ) → get_or xs k 0 ≤ bound) → (k : ℕ) → get_or (less_one xs i) k 0 ≤ bound
 low_set [] i bound f k = f k
@@ -140,7 +142,7 @@ unfolding lowering
 lowering_windows m zero n windows e = (cc, let d : windows ≡ windows_of m = cc in ap length d, λ bound f k. let d : windows_of m ≡ windows = cc in subst (λ w. get_or w k 0 ≤ bound) d (f k))
 lowering_windows m (suc i) n windows e = by (ltb m.chains (suc i)) (eqb (get_or (windows_of m) i 0) 0) e
   where
-    by : (a b : Bool) → pick_asked a (refused 10 0) (pick_asked b (refused 11 0) (granted m (less_one (windows_of m) i))) ≡ granted n windows → (m ≡ n) × (length windows ≡ length (windows_of m)) × ((bound : ℕ) → ((k : ℕ) → get_or (windows_of m) k 0 ≤ bound) → (k : ℕ) → get_or windows k 0 ≤ bound)
+    by : (a b : Bool) → pick_asked a (refused Refusal.NoSuchChain) (pick_asked b (refused Refusal.WindowZero) (granted m (less_one (windows_of m) i))) ≡ granted n windows → (m ≡ n) × (length windows ≡ length (windows_of m)) × ((bound : ℕ) → ((k : ℕ) → get_or (windows_of m) k 0 ≤ bound) → (k : ℕ) → get_or windows k 0 ≤ bound)
     by true b f = let z : ◌≡◌ {A = ℕ} 0 1 = cc in absurd (omega arith)
     by false true f = let z : ◌≡◌ {A = ℕ} 0 1 = cc in absurd (omega arith)
     by false false f =

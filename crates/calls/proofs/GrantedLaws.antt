@@ -8,18 +8,21 @@ use native.Mathlib.Omega.{arith}
 use lib.Dec.{ltb, eqb}
 use lib.ListN.{length, get_or, drop}
 use borrow.Author.Tests.{ltb-false, eqb-false}
+use Rattle.calls.specs.Answers.{plan_numbers}
+use Rattle.std.specs.Prelude.{Err}
 use Rattle.sums.specs.Choice.{choose}
 use Rattle.sums.specs.Lists.{some}
 use Rattle.network.specs.States.{value, lowered}
 use Rattle.modelfile.specs.Network.{windows_of, centres_of}
 use Rattle.modelfile.specs.declared.Model.{Model}
 use Rattle.modelfile.proofs.AcceptedLaws.{accepted}
+use Rattle.calls.specs.declared.Refusal.{Refusal}
 use Rattle.calls.specs.Answers.{Left}
 use Rattle.calls.specs.Asked.{Asked, refused, granted, pick_asked, less_one, run_windows, lowering, ask, model_of, windows_for, on_granted, cells_in, pairs_in, filled_by}
 use Rattle.calls.specs.Plan.{plan}
 use Rattle.calls.specs.Start.{no_room, too_large, no_start, start_in, start}
-use Rattle.calls.specs.declared.PlanAnswer.{PlanAnswer}
-use Rattle.calls.specs.declared.StartAnswer.{StartAnswer}
+use Rattle.calls.specs.Answers.{PlanAnswer, planned_as}
+use Rattle.calls.specs.Answers.{StartAnswer, is_started}
 use Rattle.calls.proofs.FileLaws.{granted-from, length_windows}
 
 -- the chain to lower is one of the model's and has a message to give, where there is one to lower
@@ -33,8 +36,8 @@ lowering_is m zero n windows e = (refl, omega arith)
 lowering_is m (suc k) n windows e = by (ltb m.chains (suc k)) (eqb (get_or (windows_of m) k 0) 0) refl refl e
   where
     by : (a z : Bool) → ltb m.chains (suc k) ≡ a → eqb (get_or (windows_of m) k 0) 0 ≡ z
-        → pick_asked a (refused 10 0) (pick_asked z (refused 11 0) (granted m (less_one (windows_of m) k))) ≡ granted n windows
-        → (pick_asked a (refused 10 0) (pick_asked z (refused 11 0) (granted m (less_one (windows_of m) k))) ≡ granted m (less_one (windows_of m) k)) × ((k < m.chains) × (get_or (windows_of m) k 0 ≡ 0 → ⊥))
+        → pick_asked a (refused Refusal.NoSuchChain) (pick_asked z (refused Refusal.WindowZero) (granted m (less_one (windows_of m) k))) ≡ granted n windows
+        → (pick_asked a (refused Refusal.NoSuchChain) (pick_asked z (refused Refusal.WindowZero) (granted m (less_one (windows_of m) k))) ≡ granted m (less_one (windows_of m) k)) × ((k < m.chains) × (get_or (windows_of m) k 0 ≡ 0 → ⊥))
     by true z p q d = let x : ◌≡◌ {A = ℕ} 0 1 = cc in absurd (omega arith)
     by false true p q d = let x : ◌≡◌ {A = ℕ} 0 1 = cc in absurd (omega arith)
     by false false p q d = (refl, (omega (arith, ltb-false m.chains (suc k) p), eqb-false (get_or (windows_of m) k 0) 0 q))
@@ -51,20 +54,20 @@ pub record Planned (file : List ℕ) (lower cells pairs : ℕ) : Type 0 where
   pub pairs_are : pairs ≡ pairs_in (model_of file) (windows_for file lower)
 
 -- plan tells cells and pairs
-pub planned : (file : List ℕ) (lower cells pairs : ℕ) → plan file lower ≡ PlanAnswer.Planned cells pairs → Planned file lower cells pairs
-unfolding plan
+pub planned : (file : List ℕ) (lower cells pairs : ℕ) → plan file lower ≡ planned_as cells pairs → Planned file lower cells pairs
+unfolding plan plan_numbers
 planned file lower cells pairs e = by (ask file lower) refl e
   where
     answered : Asked → PlanAnswer
-    answered a = on_granted a (λ number place. PlanAnswer.Refused number place) (λ m windows. PlanAnswer.Planned (cells_in m windows) (pairs_in m windows))
+    answered a = on_granted a (λ r. Err r) (λ m windows. planned_as (cells_in m windows) (pairs_in m windows))
 
-    by : (a : Asked) → ask file lower ≡ a → answered a ≡ PlanAnswer.Planned cells pairs → Planned file lower cells pairs
-    by (refused number place) k d = let x : ◌≡◌ {A = ℕ} 0 1 = cc in absurd (omega arith)
+    by : (a : Asked) → ask file lower ≡ a → answered a ≡ planned_as cells pairs → Planned file lower cells pairs
+    by (refused r) k d = let x : ◌≡◌ {A = ℕ} 0 1 = cc in absurd (omega arith)
     by (granted m windows) k d =
         let g = granted_is file lower m windows k in
-        let same : PlanAnswer.Planned cells pairs ≡ PlanAnswer.Planned (cells_in (model_of file) (windows_for file lower)) (pairs_in (model_of file) (windows_for file lower)) =
+        let same : planned_as cells pairs ≡ planned_as (cells_in (model_of file) (windows_for file lower)) (pairs_in (model_of file) (windows_for file lower)) =
         sym d ∙ sym (ap answered k) ∙ ap answered g in
-        record { asked = g; cells_are = cc; pairs_are = cc }
+        record { asked = g; cells_are = ap (λ a. (plan_numbers a).cells) same; pairs_are = ap (λ a. (plan_numbers a).pairs) same }
 
 -- a start is accepted: nothing of 1 to 12 is refused, and no leaf is too large
 pub record Begun (file : List ℕ) (lower : ℕ) (area : List ℕ) : Type 0 where
@@ -72,15 +75,15 @@ pub record Begun (file : List ℕ) (lower : ℕ) (area : List ℕ) : Type 0 wher
   pub room : no_room (cells_in (model_of file) (windows_for file lower)) area ≡ false
   pub low : some too_large (filled_by (model_of file) (windows_for file lower)) ≡ false
 
-pub begun : (file : List ℕ) (lower : ℕ) (area : List ℕ) → (start file lower area).answer ≡ StartAnswer.Started → Begun file lower area
+pub begun : (file : List ℕ) (lower : ℕ) (area : List ℕ) → (start file lower area).answer ≡ is_started → Begun file lower area
 unfolding start start_in
 begun file lower area e = by (ask file lower) refl e
   where
     answered : Asked → Left StartAnswer
-    answered a = on_granted a (λ number place. no_start number place area) (λ m windows. start_in m windows area)
+    answered a = on_granted a (λ r. no_start r area) (λ m windows. start_in m windows area)
 
-    by : (a : Asked) → ask file lower ≡ a → (answered a).answer ≡ StartAnswer.Started → Begun file lower area
-    by (refused number place) k d = let x : ◌≡◌ {A = ℕ} 0 1 = cc in absurd (omega arith)
+    by : (a : Asked) → ask file lower ≡ a → (answered a).answer ≡ is_started → Begun file lower area
+    by (refused r) k d = let x : ◌≡◌ {A = ℕ} 0 1 = cc in absurd (omega arith)
     by (granted m windows) k d =
         let g = granted_is file lower m windows k in
         tests g (no_room (cells_in M W) area) (some too_large (filled_by M W)) refl refl (sym (ap (λ a. (answered a).answer) g) ∙ ap (λ a. (answered a).answer) k ∙ d)
@@ -92,7 +95,7 @@ begun file lower area e = by (ask file lower) refl e
         W = windows_for file lower
 
         tests : ask file lower ≡ granted M W → (full large : Bool) → no_room (cells_in M W) area ≡ full → some too_large (filled_by M W) ≡ large
-            → (choose full (λ u. no_start 12 0 area) (λ u. choose large (λ u. no_start 14 0 area) (λ u. record { answer = StartAnswer.Started; area = filled_by M W ++ drop (cells_in M W) area }))).answer ≡ StartAnswer.Started
+            → (choose full (λ u. no_start Refusal.NoRoom area) (λ u. choose large (λ u. no_start Refusal.TooLarge area) (λ u. record { answer = is_started; area = filled_by M W ++ drop (cells_in M W) area }))).answer ≡ is_started
             → Begun file lower area
         tests g true large p q d = let x : ◌≡◌ {A = ℕ} 0 1 = cc in absurd (omega arith)
         tests g false true p q d = let x : ◌≡◌ {A = ℕ} 0 1 = cc in absurd (omega arith)

@@ -15,16 +15,17 @@ use Rattle.network.specs.Pairs.{all_pairs}
 use Rattle.modelfile.specs.File.{read_file}
 use Rattle.modelfile.specs.Network.{windows_of, loads_of, centres_of, subtrees, latest, tree_of}
 use Rattle.modelfile.specs.declared.Model.{Model}
-use Rattle.modelfile.specs.declared.Verdict.{Verdict}
+use Rattle.std.specs.Prelude.{Ok, Err}
 use Rattle.modelfile.proofs.Guaranteed.{Guaranteed}
 use Rattle.modelfile.proofs.AcceptedLaws.{accepted}
+use Rattle.calls.specs.declared.Refusal.{Refusal}
 use Rattle.calls.specs.Asked.{Asked, refused, granted, pick_asked, less_one, lowering, on_verdict, ask, on_granted, cells_in, pairs_in}
 use Rattle.calls.specs.Plan.{plan, SameButLoads}
-use Rattle.calls.specs.declared.PlanAnswer.{PlanAnswer}
+use Rattle.calls.specs.Answers.{PlanAnswer, planned_as}
 use Rattle.calls.proofs.FileLaws.{length_loads, load_at}
 
 abbrev planned : Asked → PlanAnswer
-planned a = on_granted a (λ number place. PlanAnswer.Refused number place) (λ m windows. PlanAnswer.Planned (cells_in m windows) (pairs_in m windows))
+planned a = on_granted a (λ r. Err r) (λ m windows. planned_as (cells_in m windows) (pairs_in m windows))
 
 module _ (m n : Model) (gm : Guaranteed m) (gn : Guaranteed n) (s : SameButLoads m n) where
   same_windows : windows_of m ≡ windows_of n
@@ -60,21 +61,21 @@ module _ (m n : Model) (gm : Guaranteed m) (gn : Guaranteed n) (s : SameButLoads
       by (suc c) r = marks c (omega arith)
 
   -- the answer for any windows, and then for what lowering makes of them
-  answer : (windows : List ℕ) → PlanAnswer.Planned (cells_in m windows) (pairs_in m windows) ≡ PlanAnswer.Planned (cells_in n windows) (pairs_in n windows)
-  answer windows = λ i. PlanAnswer.Planned (all_cells (same_routes i) windows (same_tree i)) (all_pairs (same_routes i) windows (same_tree i))
+  answer : (windows : List ℕ) → planned_as (cells_in m windows) (pairs_in m windows) ≡ planned_as (cells_in n windows) (pairs_in n windows)
+  answer windows = λ i. planned_as (all_cells (same_routes i) windows (same_tree i)) (all_pairs (same_routes i) windows (same_tree i))
 
   same_plan : (lower : ℕ) → planned (lowering m lower) ≡ planned (lowering n lower)
   unfolding lowering
-  same_plan zero = answer (windows_of m) ∙ ap (λ w. PlanAnswer.Planned (cells_in n w) (pairs_in n w)) same_windows
-  same_plan (suc k) = by (ltb m.chains (suc k)) (eqb (get_or (windows_of m) k 0) 0) ∙ (λ i. planned (pick_asked (ltb (s.chains i) (suc k)) (refused 10 0) (pick_asked (eqb (get_or (same_windows i) k 0) 0) (refused 11 0) (granted n (less_one (same_windows i) k)))))
+  same_plan zero = answer (windows_of m) ∙ ap (λ w. planned_as (cells_in n w) (pairs_in n w)) same_windows
+  same_plan (suc k) = by (ltb m.chains (suc k)) (eqb (get_or (windows_of m) k 0) 0) ∙ (λ i. planned (pick_asked (ltb (s.chains i) (suc k)) (refused Refusal.NoSuchChain) (pick_asked (eqb (get_or (same_windows i) k 0) 0) (refused Refusal.WindowZero) (granted n (less_one (same_windows i) k)))))
     where
-      by : (a z : Bool) → planned (pick_asked a (refused 10 0) (pick_asked z (refused 11 0) (granted m (less_one (windows_of m) k)))) ≡ planned (pick_asked a (refused 10 0) (pick_asked z (refused 11 0) (granted n (less_one (windows_of m) k))))
+      by : (a z : Bool) → planned (pick_asked a (refused Refusal.NoSuchChain) (pick_asked z (refused Refusal.WindowZero) (granted m (less_one (windows_of m) k)))) ≡ planned (pick_asked a (refused Refusal.NoSuchChain) (pick_asked z (refused Refusal.WindowZero) (granted n (less_one (windows_of m) k))))
       by true z = refl
       by false true = refl
       by false false = answer (less_one (windows_of m) k)
 
 -- plan answers the same for both, whatever chain is lowered
-pub loads_free : (f g : List ℕ) → (read_file f).verdict ≡ Verdict.Accepted → (read_file g).verdict ≡ Verdict.Accepted → SameButLoads (read_file f).model (read_file g).model → (lower : ℕ) → plan f lower ≡ plan g lower
+pub loads_free : (f g : List ℕ) → (read_file f).verdict ≡ Ok tt → (read_file g).verdict ≡ Ok tt → SameButLoads (read_file f).model (read_file g).model → (lower : ℕ) → plan f lower ≡ plan g lower
 unfolding plan ask
 loads_free f g p q s lower =
     (λ i. planned (on_verdict (p i) (lowering (read_file f).model lower)))

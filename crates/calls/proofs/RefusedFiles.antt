@@ -5,6 +5,10 @@ use Prim.Native.Nat.{ℕ}
 use mathlib.Core.Path.{◌≡◌, refl}
 use mathlib.Core.List.{List, [], ◌∷◌, ◌++◌, flat_map, zip_with}
 use lib.ListN.{take, replicate, set}
+use Rattle.modelfile.specs.Refusals.{fault_number}
+use Rattle.calls.specs.Answers.{number_of, place_of, sheet_numbers}
+use Rattle.calls.specs.declared.SheetNumbers.{SheetNumbers}
+use Rattle.modelfile.specs.declared.Refusal.{Refusal as FileRefusal}
 use Rattle.sums.specs.Lists.{from, by_number, some, all, when, those, among}
 use Rattle.sums.specs.Sums.{sum_over, splits, vector_splits}
 use Rattle.network.specs.Weight.{binomial, multinomial, powers, weight}
@@ -19,7 +23,7 @@ use Rattle.modelfile.specs.Model.{empty_model, with_size, with_window, with_load
 use Rattle.modelfile.specs.Records.{chain_without_centre, centre_missing, read_size, read_window, read_load, read_leaf, read_join, read_end, body_length, due, read_body, read_record}
 use Rattle.modelfile.specs.File.{read_from, read_file}
 use Rattle.modelfile.specs.Network.{windows_of, loads_of, centres_of, joined, subtrees, tree_of}
-use Rattle.modelfile.specs.declared.Verdict.{Verdict}
+use Rattle.std.specs.Prelude.{Err}
 use Rattle.calls.specs.Answers.{Left, tell, plan_numbers, start_numbers, advance_numbers, no_sheet}
 use Rattle.calls.specs.Asked.{lowering, ask}
 use Rattle.calls.specs.Plan.{plan}
@@ -29,7 +33,6 @@ use Rattle.calls.specs.Sheet.{full_value, numerator, load_sum, largest, first_wi
 use Rattle.calls.specs.declared.PlanNumbers.{PlanNumbers}
 use Rattle.calls.specs.declared.StartNumbers.{StartNumbers}
 use Rattle.calls.specs.declared.AdvanceNumbers.{AdvanceNumbers}
-use Rattle.calls.specs.declared.SheetAnswer.{SheetAnswer}
 use Rattle.calls.proofs.Demand1.{FileRefused, sheet_refused, demand_1}
 use Rattle.calls.proofs.Starred.{front, B, single}
 
@@ -56,7 +59,7 @@ no_start_in number area = record { answer = record { refusal = number; place = 0
 abbrev no_advance_in : ℕ → List ℕ → Left AdvanceNumbers
 no_advance_in number area = record { answer = record { refusal = number; place = 0; done = 0; value = 0 }; area = area }
 
-abbrev no_sheet_in : ℕ → List ℕ → Left SheetAnswer
+abbrev no_sheet_in : ℕ → List ℕ → Left SheetNumbers
 no_sheet_in number area = record { answer = sheet_refused number 0; area = area }
 
 -- ---- the table
@@ -114,7 +117,7 @@ pub record Refusals : Type 0 where
   -- 12: "cells above 8192 or above the area's length": "B in an area of 10 cells: 12"
   pub twelve_start : tell start_numbers (start B 0 (replicate 10 7)) ≡ no_start_in 12 (replicate 10 7)
   pub twelve_advance : tell advance_numbers (advance B 0 7 1 (replicate 10 7)) ≡ no_advance_in 12 (replicate 10 7)
-  pub twelve_sheet : sheet B (replicate 10 7) ≡ no_sheet_in 12 (replicate 10 7)
+  pub twelve_sheet : tell sheet_numbers (sheet B (replicate 10 7)) ≡ no_sheet_in 12 (replicate 10 7)
   -- 13: "pairs done above the total"
   pub thirteen_advance : tell advance_numbers (advance B 0 7 0 (replicate 11 7)) ≡ no_advance_in 13 (replicate 11 7)
   -- 14: "a cell would reach 2^64"; "Both loads 65535: advance refuses 14 with 1 pair done"
@@ -122,11 +125,11 @@ pub record Refusals : Type 0 where
   pub fourteen_advance : advance_numbers (advance wide 0 0 5 (start wide 0 (replicate 12 7)).area).answer ≡ record { refusal = 14; place = 0; done = 1; value = 0 }
   pub fourteen_advance_area : (advance wide 0 0 5 (start wide 0 (replicate 12 7)).area).area
       ≡ 1 ∷ 65535 ∷ 4294836225 ∷ 281462092005375 ∷ 18445618199572250625 ∷ 1 ∷ 65535 ∷ 4294836225 ∷ 281462092005375 ∷ 18445618199572250625 ∷ 18445618199572250625 ∷ 7 ∷ []
-  pub fourteen_sheet : sheet (single 8 1 0) (7 ∷ 7 ∷ []) ≡ no_sheet_in 14 (0 ∷ 7 ∷ [])
+  pub fourteen_sheet : tell sheet_numbers (sheet (single 8 1 0) (7 ∷ 7 ∷ [])) ≡ no_sheet_in 14 (0 ∷ 7 ∷ [])
 
 -- a file that computes to a refusal is refused by every call
-by : {file : List ℕ} {number place : ℕ} → (read_file file).verdict ≡ Verdict.Refused number place → FileRefused file number place
-by {file} {number} {place} e = (demand_1 file).refused number place e
+by : {file : List ℕ} {r : FileRefusal} → (read_file file).verdict ≡ Err r → FileRefused file (fault_number r.fault) r.place
+by {file} {r} e = (demand_1 file).refused r e
 
 pub refusals : Refusals
 unfolding flat_map zip_with from by_number some all when those among sum_over splits vector_splits
@@ -135,7 +138,7 @@ unfolding flat_map zip_with from by_number some all when those among sum_over sp
     chain_pairs index_pairs factor factors own_pairs listed all_pairs sum_at add spend
     outside empty_model with_size with_window with_load with_leaf with_join chain_without_centre centre_missing
     read_size read_window read_load read_leaf read_join read_end body_length due read_body read_record read_from read_file
-    windows_of loads_of centres_of joined subtrees tree_of plan_numbers start_numbers advance_numbers lowering ask plan no_room start_in start value_at told advance_in advance
+    windows_of loads_of centres_of joined subtrees tree_of fault_number number_of place_of plan_numbers start_numbers advance_numbers sheet_numbers lowering ask plan no_room start_in start value_at told advance_in advance
     full_value numerator load_sum largest first_with busiest no_sheet numerators full_sheet sheet_of cleared sheet_in sheet
     front B single with_byte unvisited wide
 refusals = record {

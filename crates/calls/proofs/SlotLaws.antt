@@ -20,12 +20,13 @@ use Rattle.network.proofs.SpendLaws.{spend-append, spend_done, spend-length, spe
 use Rattle.network.proofs.WholeLaws.{all_under}
 use Rattle.modelfile.specs.Network.{centres_of, tree_of}
 use Rattle.modelfile.specs.declared.Model.{Model}
+use Rattle.calls.specs.declared.Refusal.{Refusal}
 use Rattle.calls.specs.Answers.{Left}
 use Rattle.calls.specs.Asked.{granted, ask, on_granted, cells_in, pairs_in, pairs_listed}
 use Rattle.calls.specs.Start.{no_room}
 use Rattle.calls.specs.Advance.{no_advance, value_at, told, advance_in, advance}
 use Rattle.calls.specs.Slots.{on_done, sum, last_of, advances}
-use Rattle.calls.specs.declared.AdvanceAnswer.{AdvanceAnswer}
+use Rattle.calls.specs.Answers.{AdvanceAnswer, advanced_to, stopped_at}
 use Rattle.calls.proofs.FileLaws.{Fit, granted_fit}
 
 -- the number of pairs is the length of the listed order
@@ -76,8 +77,8 @@ module _ (file : List ℕ) (lower : ℕ) (m : Model) (windows : List ℕ) (asked
     unfolding advance advance_in
     advance_is n =
         let h : ltb (pairs_in m windows) done ≡ false = le-ltb (pairs_in m windows) done low in
-        ap (λ a. on_granted a (λ number place. no_advance number place A) (λ m windows. advance_in m windows done n A)) asked
-        ∙ (λ i. choose (room i) (λ u. no_advance 12 0 A) (λ u. choose (h i) (λ u. no_advance 13 0 A) (λ u. told m windows (spent m windows done n A))))
+        ap (λ a. on_granted a (λ r. no_advance r A) (λ m windows. advance_in m windows done n A)) asked
+        ∙ (λ i. choose (room i) (λ u. no_advance Refusal.NoRoom A) (λ u. choose (h i) (λ u. no_advance Refusal.PastTotal A) (λ u. told m windows (spent m windows done n A))))
 
     -- the number done never passes the total, and the area keeps its length
     pub spent_low : (n : ℕ) → (spent m windows done n A).done ≤ pairs_in m windows
@@ -131,7 +132,7 @@ module _ (file : List ℕ) (lower : ℕ) (m : Model) (windows : List ℕ) (asked
   on_told p next = by p.stopped
     where
       end : Bool → Left AdvanceAnswer
-      end t = choose t (λ u. record { answer = AdvanceAnswer.Stopped p.done; area = p.area }) (λ u. record { answer = AdvanceAnswer.Advanced p.done (value_at m windows p.done p.area); area = p.area })
+      end t = choose t (λ u. record { answer = stopped_at p.done; area = p.area }) (λ u. record { answer = advanced_to p.done (value_at m windows p.done p.area); area = p.area })
 
       by : (t : Bool) → on_done (end t).answer (end t).area (λ d. next d (end t).area) ≡ next p.done p.area
       by true = refl

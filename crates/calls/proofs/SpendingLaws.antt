@@ -9,18 +9,20 @@ use lib.Dec.{ltb, eqb}
 use lib.ListN.{length, get_or, take, drop, length-take, length-drop}
 use lib.Seq.{take-take, get_or-take, get_or-drop}
 use borrow.Author.Tests.{ltb-false, lt-ltb, le-ltb, ne_eqb}
+use Rattle.calls.specs.Answers.{number_of, place_of}
 use Rattle.sums.specs.Choice.{choose}
 use Rattle.network.specs.Pairs.{Pair}
 use Rattle.network.specs.Run.{sum_at, leave, no_pair, Progress, spend}
 use Rattle.network.proofs.RunLaws.{trace}
 use Rattle.network.proofs.SpendLaws.{spend_again, Went, went, trace_is, lead_at}
 use Rattle.modelfile.specs.declared.Model.{Model}
+use Rattle.calls.specs.declared.Refusal.{Refusal}
 use Rattle.calls.specs.Answers.{Left, advance_numbers}
 use Rattle.calls.specs.Asked.{Asked, refused, granted, ask, on_granted, cells_in, pairs_in, pairs_listed}
 use Rattle.calls.specs.Start.{no_room}
 use Rattle.calls.specs.Advance.{no_advance, value_at, told, advance_in, advance}
 use Rattle.calls.specs.Spending.{Spending, GoesOn}
-use Rattle.calls.specs.declared.AdvanceAnswer.{AdvanceAnswer}
+use Rattle.calls.specs.Answers.{AdvanceAnswer, advanced_to, stopped_at}
 use Rattle.calls.specs.declared.AdvanceNumbers.{AdvanceNumbers}
 use Rattle.calls.proofs.FileLaws.{Fit, granted_fit}
 use Rattle.calls.proofs.SlotLaws.{listed_pairs, spent, told_last, advance_is, spent_low, spent_room, last_alone}
@@ -37,8 +39,8 @@ module _ (m : Model) (windows : List ℕ) where
   module _ (p : Progress) where
     abbrev end : Bool → Left AdvanceAnswer
     end stopped =
-        choose stopped (λ u. record { answer = AdvanceAnswer.Stopped p.done; area = p.area }) λ u.
-        record { answer = AdvanceAnswer.Advanced p.done (value_at m windows p.done p.area); area = p.area }
+        choose stopped (λ u. record { answer = stopped_at p.done; area = p.area }) λ u.
+        record { answer = advanced_to p.done (value_at m windows p.done p.area); area = p.area }
 
     pub told_area : (told m windows p).area ≡ p.area
     unfolding told
@@ -49,18 +51,18 @@ module _ (m : Model) (windows : List ℕ) where
         by false = refl
 
     told_numbers : advance_numbers (told m windows p).answer ≡ numbers_at p.stopped p.done p.area
-    unfolding told advance_numbers value_at
+    unfolding told advance_numbers number_of place_of value_at
     told_numbers = by p.stopped
       where
         by : (t : Bool) → advance_numbers (end t).answer ≡ numbers_at t p.done p.area
         by true = refl
         by false = refl
 
-    pub told_stopped : (d : ℕ) → (told m windows p).answer ≡ AdvanceAnswer.Stopped d → (p.stopped ≡ true) × (p.done ≡ d)
+    pub told_stopped : (d : ℕ) → (told m windows p).answer ≡ stopped_at d → (p.stopped ≡ true) × (p.done ≡ d)
     unfolding told
     told_stopped d e = by p.stopped refl e
       where
-        by : (t : Bool) → p.stopped ≡ t → (end t).answer ≡ AdvanceAnswer.Stopped d → (p.stopped ≡ true) × (p.done ≡ d)
+        by : (t : Bool) → p.stopped ≡ t → (end t).answer ≡ stopped_at d → (p.stopped ≡ true) × (p.done ≡ d)
         by true s k = (s, cc)
         by false s k = let z : ◌≡◌ {A = ℕ} 0 1 = cc in absurd (omega arith)
 
@@ -154,9 +156,9 @@ module _ (file : List ℕ) (lower : ℕ) (m : Model) (windows : List ℕ) (asked
           advance_is file lower m windows asked p.done p.area (spent_room file lower m windows asked done A room low n) (spent_low file lower m windows asked done A room low n) budget
           ∙ ap (told m windows) (spend_again (2 ^ 64) (pairs_listed m windows) done n budget A e)
 
-      unfinished : told m windows (at false) ≡ record { answer = AdvanceAnswer.Advanced p.done 0; area = p.area }
+      unfinished : told m windows (at false) ≡ record { answer = advanced_to p.done 0; area = p.area }
       unfinished =
-          ap (λ t. record { answer = AdvanceAnswer.Advanced p.done (choose t (λ u. get_or p.area (cells_in m windows - 1) 0) (λ u. 0)); area = p.area })
+          ap (λ t. record { answer = advanced_to p.done (choose t (λ u. get_or p.area (cells_in m windows - 1) 0) (λ u. 0)); area = p.area })
           (ne_eqb p.done (pairs_in m windows) (λ d. omega (arith, stopped_low m windows f done n A e low)))
 
   -- one advance is a spending of its budget
@@ -167,18 +169,18 @@ module _ (file : List ℕ) (lower : ℕ) (m : Model) (windows : List ℕ) (asked
       (spending m windows (granted_fit file lower m windows asked).1 done budget A budget)
 
 -- whatever the area held and however many pairs were done
-pub goes_on : (file : List ℕ) (lower done budget : ℕ) (area : List ℕ) (d : ℕ) → (advance file lower done budget area).answer ≡ AdvanceAnswer.Stopped d → GoesOn file lower d (advance file lower done budget area).area
+pub goes_on : (file : List ℕ) (lower done budget : ℕ) (area : List ℕ) (d : ℕ) → (advance file lower done budget area).answer ≡ stopped_at d → GoesOn file lower d (advance file lower done budget area).area
 unfolding advance advance_in
 goes_on file lower done budget area d e = by (ask file lower) refl e
   where
     by : (a : Asked) → ask file lower ≡ a
-        → (let r = on_granted a (λ number place. no_advance number place area) (λ m windows. advance_in m windows done budget area) in r.answer ≡ AdvanceAnswer.Stopped d → GoesOn file lower d r.area)
-    by (refused number place) k s = let z : ◌≡◌ {A = ℕ} 0 1 = cc in absurd (omega arith)
+        → (let r = on_granted a (λ r. no_advance r area) (λ m windows. advance_in m windows done budget area) in r.answer ≡ stopped_at d → GoesOn file lower d r.area)
+    by (refused r) k s = let z : ◌≡◌ {A = ℕ} 0 1 = cc in absurd (omega arith)
     by (granted m windows) k s = in_room (no_room (cells_in m windows) area) (ltb (pairs_in m windows) done) refl refl s
       where
         in_room : (full high : Bool) → no_room (cells_in m windows) area ≡ full → ltb (pairs_in m windows) done ≡ high
-            → (let r = choose full (λ u. no_advance 12 0 area) (λ u. choose high (λ u. no_advance 13 0 area) (λ u. told m windows (spent m windows done budget area))) in
-            r.answer ≡ AdvanceAnswer.Stopped d → GoesOn file lower d r.area)
+            → (let r = choose full (λ u. no_advance Refusal.NoRoom area) (λ u. choose high (λ u. no_advance Refusal.PastTotal area) (λ u. told m windows (spent m windows done budget area))) in
+            r.answer ≡ stopped_at d → GoesOn file lower d r.area)
         in_room true high r h s = let z : ◌≡◌ {A = ℕ} 0 1 = cc in absurd (omega arith)
         in_room false true r h s = let z : ◌≡◌ {A = ℕ} 0 1 = cc in absurd (omega arith)
         in_room false false r h s =

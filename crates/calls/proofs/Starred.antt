@@ -4,6 +4,8 @@ use Prim.Native.Nat.{ℕ, ◌^◌}
 use mathlib.Core.Path.{◌≡◌, refl}
 use mathlib.Core.List.{List, [], ◌∷◌, ◌++◌, flat_map, zip_with}
 use lib.ListN.{replicate}
+use Rattle.modelfile.specs.Refusals.{fault_number}
+use Rattle.calls.specs.Answers.{number_of, place_of, sheet_numbers}
 use Rattle.sums.specs.Lists.{from, by_number, some, all, when, those, among}
 use Rattle.sums.specs.Sums.{sum_over, splits, vector_splits}
 use Rattle.network.specs.Weight.{binomial, multinomial, powers, weight}
@@ -26,9 +28,9 @@ use Rattle.calls.specs.Start.{no_room, start_in, start}
 use Rattle.calls.specs.Advance.{value_at, told, advance_in, advance}
 use Rattle.calls.specs.Sheet.{full_value, numerator, load_sum, largest, first_with, busiest, numerators, full_sheet, sheet_of, cleared, sheet_in, sheet}
 use Rattle.calls.specs.declared.PlanNumbers.{PlanNumbers}
-use Rattle.calls.specs.declared.StartAnswer.{StartAnswer}
+use Rattle.calls.specs.Answers.{StartAnswer}
 use Rattle.calls.specs.declared.StartNumbers.{StartNumbers}
-use Rattle.calls.specs.declared.AdvanceAnswer.{AdvanceAnswer}
+use Rattle.calls.specs.Answers.{AdvanceAnswer}
 use Rattle.calls.specs.declared.AdvanceNumbers.{AdvanceNumbers}
 
 -- ---- the files
@@ -97,7 +99,7 @@ pub record Starred : Type 0 where
   pub B_plain : plain_of B ≡ 18
   pub B_lowered_1 : run_of 11 B 1 6 ≡ advance_tells 4 3
   pub B_lowered_2 : run_of 11 B 2 6 ≡ advance_tells 3 4
-  pub B_sheet : (sheet B (replicate 11 7)).answer
+  pub B_sheet : sheet_numbers (sheet B (replicate 11 7)).answer
       ≡ record { refusal = 0; place = 0; value = 14; pairs = 6; cells = 11; chains = 2; numerators = 3 ∷ 4 ∷ 0 ∷ 0 ∷ 0 ∷ 0 ∷ 0 ∷ 0 ∷ []; busiest = 1 }
   pub B_sheet_area : (sheet B (replicate 12 7)).area ≡ replicate 11 0 ++ (7 ∷ [])
   pub B_started : start_numbers (started 12 B 0).answer ≡ start_tells 0
@@ -113,7 +115,7 @@ pub record Starred : Type 0 where
   pub two_run : run_of 7 two 0 3 ≡ advance_tells 3 7
   pub two_lowered : run_of 7 two 1 3 ≡ advance_tells 2 3
   pub two_cells_pairs : plan_numbers (plan two 0) ≡ plan_tells 7 3
-  pub two_sheet : (sheet two (replicate 7 7)).answer
+  pub two_sheet : sheet_numbers (sheet two (replicate 7 7)).answer
       ≡ record { refusal = 0; place = 0; value = 7; pairs = 3; cells = 7; chains = 1; numerators = 3 ∷ 0 ∷ 0 ∷ 0 ∷ 0 ∷ 0 ∷ 0 ∷ 0 ∷ []; busiest = 2 }
   pub both_run : run_of 1 both 0 0 ≡ advance_tells 0 36
   pub both_lowered_1 : run_of 1 both 1 0 ≡ advance_tells 0 12
@@ -121,7 +123,7 @@ pub record Starred : Type 0 where
   pub idle_run : run_of 1 (single 0 0 9) 0 0 ≡ advance_tells 0 1
   pub idle_cells_pairs : plan_numbers (plan (single 0 0 9) 0) ≡ plan_tells 1 0
   pub idle_lowered : plan_numbers (plan (single 0 0 9) 1) ≡ record { refusal = 11; place = 0; cells = 0; pairs = 0 }
-  pub idle_rate : (sheet (single 0 0 9) (7 ∷ [])).answer
+  pub idle_rate : sheet_numbers (sheet (single 0 0 9) (7 ∷ [])).answer
       ≡ record { refusal = 0; place = 0; value = 1; pairs = 0; cells = 1; chains = 1; numerators = replicate 8 0; busiest = 1 }
   pub once_run : run_of 3 once 0 1 ≡ advance_tells 1 125
   pub once_lowered : run_of 3 once 1 1 ≡ advance_tells 1 25
@@ -131,7 +133,7 @@ pub record Starred : Type 0 where
   pub large_window_5_area : (started 1 (single 5 255 255) 0).area ≡ 7 ∷ []
   pub exact_value : states_of (single 8 1 0) ≡ 2 ^ 64
   pub exact_refused : start_numbers (started 1 (single 8 1 0) 0).answer ≡ start_tells 14
-  pub exact_sheet : (sheet (single 8 1 0) (7 ∷ [])).answer.refusal ≡ 14
+  pub exact_sheet : (sheet_numbers (sheet (single 8 1 0) (7 ∷ [])).answer).refusal ≡ 14
   pub below_accepted : start_numbers (started 1 (single 8 0 255) 0).answer ≡ start_tells 0
 
 pub starred : Starred
@@ -140,7 +142,7 @@ unfolding flat_map zip_with from by_number some all when those among sum_over sp
     under visits chain_centres coverage_by coverage coverages span index_values indices size cells stride strides along spans_at all_cells base cell_of spread start_cell filled
     chain_pairs index_pairs factor factors own_pairs listed all_pairs triangles plain_pairs sum_at add spend
     outside empty_model with_size with_window with_load with_leaf with_join chain_without_centre centre_missing read_size read_window read_load read_leaf read_join read_end body_length due read_body read_record read_from read_file tree_part part_from part_numbers
-    windows_of loads_of centres_of joined subtrees tree_of plan_numbers start_numbers advance_numbers lowering ask plan no_room start_in start value_at told advance_in advance
+    windows_of loads_of centres_of joined subtrees tree_of fault_number number_of place_of plan_numbers start_numbers advance_numbers sheet_numbers lowering ask plan no_room start_in start value_at told advance_in advance
     full_value numerator load_sum largest first_with busiest no_sheet numerators full_sheet sheet_of cleared sheet_in sheet
     front B other two both once single started advanced run_of states_of plain_of
 starred = record {

@@ -5,12 +5,13 @@ use mathlib.Core.Path.{◌≡◌, ap, ◌∙◌}
 use mathlib.Core.List.{List}
 use native.Mathlib.Omega.{arith}
 use lib.ListN.{get_or, replicate}
+use Rattle.calls.specs.Answers.{sheet_numbers}
 use Rattle.calls.specs.Answers.{plan_numbers, start_numbers, advance_numbers}
 use Rattle.calls.specs.Promises.{PlanAllows, StartAllows, AdvanceAllows, SheetAllows}
-use Rattle.calls.specs.declared.PlanAnswer.{PlanAnswer}
-use Rattle.calls.specs.declared.StartAnswer.{StartAnswer}
-use Rattle.calls.specs.declared.AdvanceAnswer.{AdvanceAnswer}
-use Rattle.calls.specs.declared.SheetAnswer.{SheetAnswer}
+use Rattle.calls.specs.Answers.{PlanAnswer}
+use Rattle.calls.specs.Answers.{StartAnswer}
+use Rattle.calls.specs.Answers.{AdvanceAnswer}
+use Rattle.calls.specs.Answers.{SheetAnswer}
 use Rattle.calls.proofs.Starred.{B, two, started, advanced, run_of, starred}
 
 -- the area after a start of B in 11 and in 12 cells that held 7
@@ -29,8 +30,8 @@ pub refuses_all_advance : (r : AdvanceAnswer) (left : List ℕ) → 1 ≤ (advan
 unfolding run_of advanced
 refuses_all_advance r left h e = omega (arith, ap (λ a. (advance_numbers a).refusal) e.0 ∙ ap (λ n. n.refusal) starred.B_run)
 
-pub refuses_all_sheet : (r : SheetAnswer) (left : List ℕ) → 1 ≤ r.refusal → SheetAllows B (replicate 11 7) r left → ⊥
-refuses_all_sheet r left h e = omega (arith, ap (λ a. a.refusal) e.0 ∙ ap (λ a. a.refusal) starred.B_sheet)
+pub refuses_all_sheet : (r : SheetAnswer) (left : List ℕ) → 1 ≤ (sheet_numbers r).refusal → SheetAllows B (replicate 11 7) r left → ⊥
+refuses_all_sheet r left h e = omega (arith, ap (λ a. (sheet_numbers a).refusal) e.0 ∙ ap (λ n. n.refusal) starred.B_sheet)
 
 -- 2. One that answers a fixed value: B and the model with two centres have different ones (demand 2)
 pub fixed_value_advance : (r s : AdvanceAnswer) (left other : List ℕ) → (advance_numbers r).value ≡ (advance_numbers s).value
@@ -41,10 +42,10 @@ fixed_value_advance r s left other same p q =
     let y : (advance_numbers s).value ≡ 7 = ap (λ a. (advance_numbers a).value) q.0 ∙ ap (λ n. n.value) starred.two_run in
     omega (arith, same, x, y)
 
-pub fixed_value_sheet : (r s : SheetAnswer) (left other : List ℕ) → r.value ≡ s.value → SheetAllows B (replicate 11 7) r left → SheetAllows two (replicate 7 7) s other → ⊥
+pub fixed_value_sheet : (r s : SheetAnswer) (left other : List ℕ) → (sheet_numbers r).value ≡ (sheet_numbers s).value → SheetAllows B (replicate 11 7) r left → SheetAllows two (replicate 7 7) s other → ⊥
 fixed_value_sheet r s left other same p q =
-    let x : r.value ≡ 14 = ap (λ a. a.value) p.0 ∙ ap (λ a. a.value) starred.B_sheet in
-    let y : s.value ≡ 7 = ap (λ a. a.value) q.0 ∙ ap (λ a. a.value) starred.two_sheet in
+    let x : (sheet_numbers r).value ≡ 14 = ap (λ a. (sheet_numbers a).value) p.0 ∙ ap (λ n. n.value) starred.B_sheet in
+    let y : (sheet_numbers s).value ≡ 7 = ap (λ a. (sheet_numbers a).value) q.0 ∙ ap (λ n. n.value) starred.two_sheet in
     omega (arith, same, x, y)
 
 -- 3. One that touches no cell: a start of B, or an advance by one pair, changes the area (demand 3)
@@ -69,5 +70,5 @@ all_at_once r e =
 pub invented_pairs_plan : (r : PlanAnswer) → ((plan_numbers r).pairs ≡ 6 → ⊥) → PlanAllows B 0 r → ⊥
 invented_pairs_plan r f e = f (ap (λ a. (plan_numbers a).pairs) e ∙ ap (λ n. n.pairs) starred.B_cells_pairs)
 
-pub invented_pairs_sheet : (r : SheetAnswer) (left : List ℕ) → (r.pairs ≡ 6 → ⊥) → SheetAllows B (replicate 11 7) r left → ⊥
-invented_pairs_sheet r left f e = f (ap (λ a. a.pairs) e.0 ∙ ap (λ a. a.pairs) starred.B_sheet)
+pub invented_pairs_sheet : (r : SheetAnswer) (left : List ℕ) → ((sheet_numbers r).pairs ≡ 6 → ⊥) → SheetAllows B (replicate 11 7) r left → ⊥
+invented_pairs_sheet r left f e = f (ap (λ a. (sheet_numbers a).pairs) e.0 ∙ ap (λ n. n.pairs) starred.B_sheet)

@@ -1,16 +1,18 @@
 -- "Plan, start and advance take a file and a chain to lower: 0 for none, else that chain's window counts one less." What is asked is
 -- refused with 1 to 11, or is a model and the windows of the run.
+use Rattle.modelfile.specs.declared.Refusal.{Refusal as FileRefusal}
 use Rattle.std.specs.Prelude.{ℕ, zero, suc, ◌-◌, Bool, true, false, List, ltb, eqb, get_or, set}
 use Rattle.network.specs.Cells.{all_cells, filled}
 use Rattle.network.specs.Centre.{routes_of}
 use Rattle.network.specs.Pairs.{Pair, all_pairs, listed}
 use Rattle.modelfile.specs.File.{read_file}
 use Rattle.modelfile.specs.Network.{windows_of, centres_of, tree_of}
+use Rattle.calls.specs.declared.Refusal.{Refusal}
 use Rattle.modelfile.specs.declared.Model.{Model}
-use Rattle.modelfile.specs.declared.Verdict.{Verdict}
+use Rattle.std.specs.Prelude.{⊤, Result, Ok, Err}
 
 pub data Asked : Type 0 where
-  refused : ℕ → ℕ → Asked
+  refused : Refusal → Asked
   granted : Model → List ℕ → Asked
 
 abbrev pub pick_asked : Bool → Asked → Asked → Asked
@@ -30,13 +32,13 @@ run_windows m (suc k) = less_one (windows_of m) k
 unfoldable pub lowering : Model → ℕ → Asked
 lowering m zero = granted m (run_windows m zero)
 lowering m (suc k) =
-    pick_asked (ltb m.chains (suc k)) (refused 10 0)
-    (pick_asked (eqb (get_or (windows_of m) k 0) 0) (refused 11 0)
+    pick_asked (ltb m.chains (suc k)) (refused Refusal.NoSuchChain)
+    (pick_asked (eqb (get_or (windows_of m) k 0) 0) (refused Refusal.WindowZero)
     (granted m (run_windows m (suc k))))
 
-abbrev pub on_verdict : Verdict → Asked → Asked
-on_verdict Verdict.Accepted asked = asked
-on_verdict (Verdict.Refused number place) asked = refused number place
+abbrev pub on_verdict : Result ⊤ FileRefusal → Asked → Asked
+on_verdict (Ok u) asked = asked
+on_verdict (Err r) asked = refused (Refusal.File r)
 
 unfoldable pub ask : List ℕ → ℕ → Asked
 ask file lower = on_verdict (read_file file).verdict (lowering (read_file file).model lower)
@@ -50,8 +52,8 @@ windows_for file lower = run_windows (model_of file) lower
 
 -- what is answered where nothing of 1 to 11 is refused
 module _ {A : Type 0} where
-  abbrev pub on_granted : Asked → (ℕ → ℕ → A) → (Model → List ℕ → A) → A
-  on_granted (refused number place) stop on = stop number place
+  abbrev pub on_granted : Asked → (Refusal → A) → (Model → List ℕ → A) → A
+  on_granted (refused r) stop on = stop r
   on_granted (granted m windows) stop on = on m windows
 
 -- ---- a model under the windows of a run

@@ -1,14 +1,15 @@
 -- "Plan returns cells and pairs." It gives 1 to 11.
+use Rattle.std.specs.Prelude.{Err}
 use Rattle.std.specs.Prelude.{ℕ, ◌≡◌, List, get_or}
 use Rattle.network.specs.Centre.{visit}
 use Rattle.modelfile.specs.declared.Model.{Model}
 use Rattle.calls.specs.Asked.{ask, on_granted, cells_in, pairs_in}
-use Rattle.calls.specs.declared.PlanAnswer.{PlanAnswer}
+use Rattle.calls.specs.Answers.{PlanAnswer, planned_as}
 
 unfoldable pub plan : List ℕ → ℕ → PlanAnswer
 plan file lower =
-    on_granted (ask file lower) (λ number place. PlanAnswer.Refused number place) λ m windows.
-    PlanAnswer.Planned (cells_in m windows) (pairs_in m windows)
+    on_granted (ask file lower) (λ r. Err r) λ m windows.
+    planned_as (cells_in m windows) (pairs_in m windows)
 
 -- two models that differ in loads only: where one has a load the other has one
 pub record SameButLoads (m n : Model) : Type 0 where

@@ -7,7 +7,7 @@ use Rattle.modelfile.specs.declared.Model.{Model}
 use Rattle.calls.specs.Answers.{Left, advance_numbers}
 use Rattle.calls.specs.Asked.{cells_in, pairs_in, pairs_listed}
 use Rattle.calls.specs.Advance.{advance}
-use Rattle.calls.specs.declared.AdvanceAnswer.{AdvanceAnswer}
+use Rattle.calls.specs.Answers.{AdvanceAnswer, advanced_to, stopped_at}
 
 -- `n` pairs were to be spent after those done, in budgets of which the last was `last`; r is what the last advance answered and left
 pub record Spending (m : Model) (windows : List ℕ) (done n last : ℕ) (area : List ℕ) (r : Left AdvanceAnswer) : Type 0 where
@@ -29,5 +29,5 @@ pub record Spending (m : Model) (windows : List ℕ) (done n last : ℕ) (area :
 -- a board that goes on after 14 with the number it was given back: the area stays as it is, a budget of 1 or more stops again at the same
 -- number, and a budget of 0 is told that number, with no refusal and no value
 pub record GoesOn (file : List ℕ) (lower done : ℕ) (area : List ℕ) : Type 0 where
-  pub again : (budget : ℕ) → 1 ≤ budget → advance file lower done budget area ≡ record { answer = AdvanceAnswer.Stopped done; area = area }
-  pub idle : advance file lower done 0 area ≡ record { answer = AdvanceAnswer.Advanced done 0; area = area }
+  pub again : (budget : ℕ) → 1 ≤ budget → advance file lower done budget area ≡ record { answer = stopped_at done; area = area }
+  pub idle : advance file lower done 0 area ≡ record { answer = advanced_to done 0; area = area }

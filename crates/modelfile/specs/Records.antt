@@ -7,7 +7,6 @@ use Rattle.modelfile.specs.Ends.{last_centre, last_chain, largest_window, larges
 use Rattle.modelfile.specs.Model.{with_size, with_window, slot, with_load, with_leaf, with_join}
 use Rattle.modelfile.specs.declared.Fault.{Fault}
 use Rattle.modelfile.specs.declared.Model.{Model}
-use Rattle.modelfile.specs.declared.Refusal.{Refusal}
 use Rattle.modelfile.specs.declared.Step.{Step}
 use Rattle.modelfile.specs.declared.Stepped.{Stepped}
 
