@@ -3,6 +3,8 @@
 #![tactic(auto)]
 
 ghost use Rattle.std.specs.Prelude.{◌≡◌};
+ghost use Rattle.calls.specs.declared.Halted.{Halted};
+ghost use Rattle.calls.specs.declared.Refusal.{Refusal};
 ghost use Rattle.calls.specs.Answers.{number_of, place_of, plan_numbers, start_numbers, advance_numbers, sheet_numbers};
 
 // Why a call refuses; a file's fault has a place, the others have none.
@@ -21,6 +23,41 @@ pub enum Refusal {
     TooLarge,
     // the sheet's: the value is below 2^64, a lowered one isn't
     LoweredTooLarge,
+}
+
+impl Refusal {
+    #[tactic(auto, unfolding(crate::specs::Answers::number_of))]
+    pub fn number(self) -> u64
+        ensures { result ≡ number_of self }
+    {
+        match self {
+            Refusal::File(r) => r.fault.number(),
+            Refusal::NoSuchChain => 10,
+            Refusal::WindowZero => 11,
+            Refusal::NoRoom => 12,
+            Refusal::PastTotal => 13,
+            Refusal::TooLarge => 14,
+            Refusal::LoweredTooLarge => 15,
+        }
+    }
+
+    #[tactic(auto, unfolding(crate::specs::Answers::place_of))]
+    pub fn place(self) -> u64
+        ensures { result ≡ place_of self }
+    {
+        match self {
+            Refusal::File(r) => r.place as u64,
+            _ => 0,
+        }
+    }
+}
+
+impl From<modelfile::Refusal> for Refusal {
+    ghost from_gives = { λ r result. result ≡ Refusal.File r };
+
+    fn from(r: modelfile::Refusal) -> Self {
+        Refusal::File(r)
+    }
 }
 
 // What a plan tells.
@@ -45,6 +82,14 @@ pub enum Halted {
     Refused(Refusal),
 }
 
+impl From<Refusal> for Halted {
+    ghost from_gives = { λ r result. result ≡ Halted.Refused r };
+
+    fn from(r: Refusal) -> Self {
+        Halted::Refused(r)
+    }
+}
+
 #[derive(Clone, Copy, PartialEq, Eq)]
 pub struct Sheet {
     pub value: u64,
@@ -66,11 +111,51 @@ pub struct PlanNumbers {
     pub pairs: u64,
 }
 
+impl From<Result<Planned, Refusal>> for PlanNumbers {
+    ghost from_gives = { λ answer result. result ≡ plan_numbers answer };
+
+    #[tactic(auto, unfolding(crate::specs::Answers::plan_numbers))]
+    fn from(answer: Result<Planned, Refusal>) -> Self {
+        match answer {
+            Ok(p) => PlanNumbers {
+                refusal: 0,
+                place: 0,
+                cells: p.cells,
+                pairs: p.pairs,
+            },
+            Err(r) => PlanNumbers {
+                refusal: r.number(),
+                place: r.place(),
+                cells: 0,
+                pairs: 0,
+            },
+        }
+    }
+}
+
 #[repr(C)]
 #[derive(Clone, Copy)]
 pub struct StartNumbers {
     pub refusal: u64,
     pub place: u64,
+}
+
+impl From<Result<(), Refusal>> for StartNumbers {
+    ghost from_gives = { λ answer result. result ≡ start_numbers answer };
+
+    #[tactic(auto, unfolding(crate::specs::Answers::start_numbers))]
+    fn from(answer: Result<(), Refusal>) -> Self {
+        match answer {
+            Ok(()) => StartNumbers {
+                refusal: 0,
+                place: 0,
+            },
+            Err(r) => StartNumbers {
+                refusal: r.number(),
+                place: r.place(),
+            },
+        }
+    }
 }
 
 #[repr(C)]
@@ -80,6 +165,25 @@ pub struct AdvanceNumbers {
     pub place: u64,
     pub done: u64,
     pub value: u64,
+}
+
+impl From<Result<Advanced, Halted>> for AdvanceNumbers {
+    ghost from_gives = { λ answer result. result ≡ advance_numbers answer };
+
+    #[tactic(auto, unfolding(crate::specs::Answers::advance_numbers))]
+    fn from(answer: Result<Advanced, Halted>) -> Self {
+        let (refusal, done, value) = match answer {
+            Ok(a) => (None, a.done, a.value),
+            Err(Halted::Stopped { done }) => (Some(Refusal::TooLarge), done, 0),
+            Err(Halted::Refused(r)) => (Some(r), 0, 0),
+        };
+        AdvanceNumbers {
+            refusal: refusal.map_or(0, |r| r.number()),
+            place: refusal.map_or(0, |r| r.place()),
+            done,
+            value,
+        }
+    }
 }
 
 #[repr(C)]
@@ -93,6 +197,39 @@ pub struct SheetNumbers {
     pub chains: u64,
     pub numerators: [u64; 8],
     pub busiest: u64,
+}
+
+impl From<Result<Sheet, Refusal>> for SheetNumbers {
+    ghost from_gives = { λ answer result. result ≡ sheet_numbers answer };
+
+    #[tactic(auto, unfolding(crate::specs::Answers::sheet_numbers, crate::specs::Answers::no_sheet))]
+    fn from(answer: Result<Sheet, Refusal>) -> Self {
+        match answer {
+            Ok(s) => {
+                let numerators = s.numerators;
+                SheetNumbers {
+                    refusal: 0,
+                    place: 0,
+                    value: s.value,
+                    pairs: s.pairs,
+                    cells: s.cells,
+                    chains: s.chains,
+                    numerators,
+                    busiest: s.busiest,
+                }
+            }
+            Err(r) => SheetNumbers {
+                refusal: r.number(),
+                place: r.place(),
+                value: 0,
+                pairs: 0,
+                cells: 0,
+                chains: 0,
+                numerators: [0; 8],
+                busiest: 0,
+            },
+        }
+    }
 }
 
 // Where the tree part stands in the file.

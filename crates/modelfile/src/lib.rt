@@ -2,6 +2,9 @@
 // stands in a crate of its own.
 #![tactic(auto)]
 
+ghost use Rattle.std.specs.Prelude.{◌≡◌};
+ghost use Rattle.modelfile.specs.Refusals.{fault_number};
+
 // What the records up to some place have given.
 #[derive(Clone, Copy)]
 pub struct Model {
@@ -45,6 +48,25 @@ pub enum Fault {
     NotOneTree,
     // bytes after the end
     PastTheEnd,
+}
+
+impl Fault {
+    #[tactic(auto, unfolding(crate::specs::Refusals::fault_number))]
+    pub fn number(self) -> u64
+        ensures { result ≡ fault_number self }
+    {
+        match self {
+            Fault::Incomplete => 1,
+            Fault::NotDue => 2,
+            Fault::OutOfRange => 3,
+            Fault::OutOfOrder => 4,
+            Fault::ChainWithoutCentre => 5,
+            Fault::CentreAgain => 6,
+            Fault::TooFewSubtrees => 7,
+            Fault::NotOneTree => 8,
+            Fault::PastTheEnd => 9,
+        }
+    }
 }
 
 #[derive(Clone, Copy, PartialEq, Eq)]
