@@ -67,6 +67,12 @@ impl Fault {
             Fault::PastTheEnd => 9,
         }
     }
+
+    pub fn at(self, place: usize) -> Refusal
+        ensures { result ≡ record { fault = self; place = place } }
+    {
+        Refusal { fault: self, place }
+    }
 }
 
 #[derive(Clone, Copy, PartialEq, Eq)]

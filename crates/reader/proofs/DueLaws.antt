@@ -1,89 +1,107 @@
--- Which kinds are due: what the definition says at each `return` of the code; and that a window that is due has room.
-use Prim.Native.Nat.{ℕ, zero, suc, ◌<◌, ◌≤◌}
+-- Which kinds are due: the definition's list at each stage of the reading, and which kinds are on it; and that a window that is due has room.
+use Prim.Native.Nat.{ℕ, ◌<◌, ◌≤◌}
 use mathlib.Core.Path.{◌≡◌, refl, sym, ◌∙◌}
-use mathlib.Core.Bool.{Bool, true, false, not, or-false}
+use mathlib.Core.Bool.{Bool, true, false}
+use mathlib.Core.Logic.{◌⊎◌, inl, inr}
 use mathlib.Core.List.{[], ◌∷◌}
 use native.Mathlib.Omega.{arith}
-use lib.Dec.{leb, eqb}
-use lib.ListN.{get_or}
-use borrow.Author.Tests.{lt-ltb, le-ltb, lt-leb, eq-eqb, ne_eqb, not-false}
+use lib.Dec.{eqb}
+use borrow.Author.Tests.{lt-ltb, le-ltb, eq-eqb, ne_eqb}
 use Rattle.sums.specs.Lists.{some}
-use Rattle.modelfile.specs.Records.{due, body_length}
+use Rattle.modelfile.specs.Records.{due}
 use Rattle.modelfile.specs.declared.Model.{Model}
-use Rattle.modelfile.proofs.StepLaws.{due_is, window_missing}
+use Rattle.modelfile.proofs.StepLaws.{Due, due_is, window_missing}
 use Rattle.modelfile.proofs.SoundLaws.{Sound, window_room}
+use Rattle.reader.specs.Kinds.{kind_number}
+use Rattle.reader.specs.declared.kinds.Kind.{Kind}
 
--- one kind, and the three of the tree, as tests of numbers
-one_kind : (kind k : ℕ) → eqb kind k ≡ some (eqb kind) (k ∷ [])
-unfolding some
-one_kind kind k = sym (or-false (eqb kind k))
+-- ---- the stages
 
-high_kinds : (kind : ℕ) → 6 < kind → leb kind 6 ≡ some (eqb kind) (4 ∷ 5 ∷ 6 ∷ [])
-unfolding some
-high_kinds kind h = rw (lt-leb _ _ h, ne_eqb kind 4 (λ e. omega arith), ne_eqb kind 5 (λ e. omega arith), ne_eqb kind 6 (λ e. omega arith))
-
-tree_kinds : (kind : ℕ) → 4 ≤ kind → leb kind 6 ≡ some (eqb kind) (4 ∷ 5 ∷ 6 ∷ [])
-unfolding some
-tree_kinds zero h = absurd (omega arith)
-tree_kinds (suc zero) h = absurd (omega arith)
-tree_kinds (suc (suc zero)) h = absurd (omega arith)
-tree_kinds (suc (suc (suc zero))) h = absurd (omega arith)
-tree_kinds (suc (suc (suc (suc zero)))) h = refl
-tree_kinds (suc (suc (suc (suc (suc zero))))) h = refl
-tree_kinds (suc (suc (suc (suc (suc (suc zero)))))) h = refl
-tree_kinds (suc (suc (suc (suc (suc (suc (suc k))))))) h = high_kinds (suc (suc (suc (suc (suc (suc (suc k))))))) (omega arith)
-
-low_kinds : (kind : ℕ) → kind < 4 → false ≡ some (eqb kind) (4 ∷ 5 ∷ 6 ∷ [])
-unfolding some
-low_kinds zero h = refl
-low_kinds (suc zero) h = refl
-low_kinds (suc (suc zero)) h = refl
-low_kinds (suc (suc (suc zero))) h = refl
-low_kinds (suc (suc (suc (suc k)))) h = absurd (omega arith)
-
-module _ (m : Model) (kind : ℕ) where
-  pub due_size : m.centres ≡ 0 → eqb kind 1 ≡ some (eqb kind) (due m)
+module _ (m : Model) where
+  pub at_size : m.centres ≡ 0 → due m ≡ 1 ∷ []
   unfolding due
-  due_size h = rw (eq-eqb _ _ h) (one_kind kind 1)
+  at_size a = rw (eq-eqb _ _ a) refl
 
   module _ (a : m.centres ≡ 0 → ⊥) where
-    pub due_window : m.given < m.chains → eqb kind 2 ≡ some (eqb kind) (due m)
+    pub at_window : m.given < m.chains → due m ≡ 2 ∷ []
     unfolding due
-    due_window h = rw (ne_eqb _ _ a, lt-ltb _ _ h) (one_kind kind 2)
+    at_window b = rw (ne_eqb _ _ a, lt-ltb _ _ b) refl
 
     module _ (b : m.chains ≤ m.given) where
-      pub due_load : m.count ≡ 0 → kind ≡ 3 → true ≡ some (eqb kind) (due m)
-      unfolding due some
-      due_load h k = rw (ne_eqb _ _ a, le-ltb _ _ b, eq-eqb _ _ h, eq-eqb _ _ k)
+      pub at_load : m.count ≡ 0 → due m ≡ 3 ∷ 4 ∷ []
+      unfolding due
+      at_load d = rw (ne_eqb _ _ a, le-ltb _ _ b, eq-eqb _ _ d) refl
 
-      pub due_first : m.count ≡ 0 → (kind ≡ 3 → ⊥) → eqb kind 4 ≡ some (eqb kind) (due m)
-      unfolding due some
-      due_first h k = rw (ne_eqb _ _ a, le-ltb _ _ b, eq-eqb _ _ h, ne_eqb _ _ k) (one_kind kind 4)
+      pub at_tree : (m.count ≡ 0 → ⊥) → due m ≡ 4 ∷ 5 ∷ 6 ∷ []
+      unfolding due
+      at_tree d = rw (ne_eqb _ _ a, le-ltb _ _ b, ne_eqb _ _ d) refl
 
-      module _ (h : m.count ≡ 0 → ⊥) where
-        pub due_low : kind < 4 → false ≡ some (eqb kind) (due m)
-        unfolding due
-        due_low k = rw (ne_eqb _ _ a, le-ltb _ _ b, ne_eqb _ _ h) (low_kinds kind k)
+-- ---- the kinds on each list, and the others
 
-        pub due_tree : 4 ≤ kind → leb kind 6 ≡ some (eqb kind) (due m)
-        unfolding due
-        due_tree k = rw (ne_eqb _ _ a, le-ltb _ _ b, ne_eqb _ _ h) (tree_kinds kind k)
+module _ {kind : Kind} where
+  pub load_or_leaf : (kind ≡ Kind.Load) ⊎ (kind ≡ Kind.Leaf) → true ≡ some (eqb (kind_number kind)) (3 ∷ 4 ∷ [])
+  unfolding some
+  load_or_leaf (inl e) = rw e refl
+  load_or_leaf (inr e) = rw e refl
+
+  pub in_tree : (kind ≡ Kind.Leaf) ⊎ (kind ≡ Kind.Join) ⊎ (kind ≡ Kind.End) → true ≡ some (eqb (kind_number kind)) (4 ∷ 5 ∷ 6 ∷ [])
+  unfolding some
+  in_tree (inl e) = rw e refl
+  in_tree (inr (inl e)) = rw e refl
+  in_tree (inr (inr e)) = rw e refl
+
+pub not_size : (kind : Kind) → (kind ≡ Kind.Size → ⊥) → false ≡ some (eqb (kind_number kind)) (1 ∷ [])
+unfolding some
+not_size Kind.Size f = absurd (f refl)
+not_size Kind.Window f = refl
+not_size Kind.Load f = refl
+not_size Kind.Leaf f = refl
+not_size Kind.Join f = refl
+not_size Kind.End f = refl
+
+pub not_window : (kind : Kind) → (kind ≡ Kind.Window → ⊥) → false ≡ some (eqb (kind_number kind)) (2 ∷ [])
+unfolding some
+not_window Kind.Size f = refl
+not_window Kind.Window f = absurd (f refl)
+not_window Kind.Load f = refl
+not_window Kind.Leaf f = refl
+not_window Kind.Join f = refl
+not_window Kind.End f = refl
+
+pub not_load : (kind : Kind) → (kind ≡ Kind.Load → ⊥) → (kind ≡ Kind.Leaf → ⊥) → false ≡ some (eqb (kind_number kind)) (3 ∷ 4 ∷ [])
+unfolding some
+not_load Kind.Size f g = refl
+not_load Kind.Window f g = refl
+not_load Kind.Load f g = absurd (f refl)
+not_load Kind.Leaf f g = absurd (g refl)
+not_load Kind.Join f g = refl
+not_load Kind.End f g = refl
+
+pub not_tree : (kind : Kind) → (kind ≡ Kind.Leaf → ⊥) → (kind ≡ Kind.Join → ⊥) → (kind ≡ Kind.End → ⊥) → false ≡ some (eqb (kind_number kind)) (4 ∷ 5 ∷ 6 ∷ [])
+unfolding some
+not_tree Kind.Size f g h = refl
+not_tree Kind.Window f g h = refl
+not_tree Kind.Load f g h = refl
+not_tree Kind.Leaf f g h = absurd (f refl)
+not_tree Kind.Join f g h = absurd (g refl)
+not_tree Kind.End f g h = absurd (h refl)
+
+-- a byte that is no kind's is never due
+never : (m : Model) {byte : ℕ} → Due m byte → (1 ≤ byte → 6 < byte) → ⊥
+never m (Due.size z) h = omega (arith, h (omega arith))
+never m (Due.window s w) h = omega (arith, h (omega arith))
+never m (Due.load s w z) h = omega (arith, h (omega arith))
+never m (Due.leaf s w) h = omega (arith, h (omega arith))
+never m (Due.join s w n) h = omega (arith, h (omega arith))
+never m (Due.end s w n) h = omega (arith, h (omega arith))
+
+pub none_due : (m : Model) (byte : ℕ) → (1 ≤ byte → 6 < byte) → some (eqb byte) (due m) ≡ false
+none_due m byte h = by (some (eqb byte) (due m)) refl
+  where
+    by : (t : Bool) → some (eqb byte) (due m) ≡ t → some (eqb byte) (due m) ≡ false
+    by true e = absurd (never m (due_is m byte e) h)
+    by false e = e
 
 -- a window that is due has room
-pub window_fits : (m : Model) {kind : ℕ} {u : Bool} → Sound m → u ≡ some (eqb kind) (due m) → not u ≡ false → kind ≡ 2 → m.given < 8
-window_fits m {kind} s d y k = window_room m s (window_missing (rw k at (due_is m kind (sym d ∙ not-false _ y))))
-
--- no body has more than four bytes
-pub body_few : (kind : ℕ) → body_length kind ≤ 4
-unfolding body_length
-body_few kind = few kind
-  where
-    few : (k : ℕ) → get_or (0 ∷ 2 ∷ 2 ∷ 4 ∷ 1 ∷ 0 ∷ 0 ∷ []) k 0 ≤ 4
-    few zero = omega arith
-    few (suc zero) = omega arith
-    few (suc (suc zero)) = omega arith
-    few (suc (suc (suc zero))) = omega arith
-    few (suc (suc (suc (suc zero)))) = omega arith
-    few (suc (suc (suc (suc (suc zero))))) = omega arith
-    few (suc (suc (suc (suc (suc (suc zero)))))) = omega arith
-    few (suc (suc (suc (suc (suc (suc (suc k))))))) = omega arith
+pub window_fits : (m : Model) {u : Bool} → Sound m → u ≡ some (eqb 2) (due m) → u ≡ true → m.given < 8
+window_fits m s d y = window_room m s (window_missing (due_is m 2 (sym d ∙ y)))

@@ -1,3 +1,4 @@
+pub mod HandedLaws
 pub mod NumberLaws
 pub mod FieldLaws
 pub mod NodeLaws

@@ -1,88 +1,60 @@
 // The kinds of number in a file, each with its ends: "these ends are constants that belong to each kind of number".
-ghost use Rattle.std.specs.Prelude.{◌≡◌, ◌<◌, length, get_or};
+ghost use Rattle.std.specs.Prelude.{◌≡◌, ◌+◌, ◌^◌, ◌<◌, length};
 ghost use Rattle.modelfile.specs.Ends.{outside};
-ghost use Rattle.reader.specs.Numbers.{centre_of, chain_of};
+ghost use Rattle.reader.specs.Numbers.{numbered, field};
 
-#[derive(Clone, Copy)]
-pub struct Centre {
+use modelfile::{Fault, Refusal};
+
+// A number of one kind, from 1 to `last`: to the kind's LAST in the size record, to the number declared there afterwards.
+#[derive(Clone, Copy, PartialEq, Eq)]
+pub struct Number<const LAST: usize> {
     pub n: usize,
 }
 
-#[derive(Clone, Copy)]
-pub enum CentreOr {
-    IsCentre(Centre),
-    NoCentre,
-}
+pub type Centre = Number<16>;
 
 impl Centre {
     pub const FIRST: usize = 1;
 
     pub const LAST: usize = 16;
-
-    // `last` is LAST in the size record, and the number declared there afterwards.
-    pub fn new(n: usize, last: usize) -> CentreOr
-        ensures { result ≡ centre_of n last }
-    {
-        if is_outside(Self::FIRST, last, n) {
-            return CentreOr::NoCentre;
-        }
-        CentreOr::IsCentre(Centre { n })
-    }
 }
 
-#[derive(Clone, Copy)]
-pub struct Chain {
-    pub n: usize,
-}
-
-#[derive(Clone, Copy)]
-pub enum ChainOr {
-    IsChain(Chain),
-    NoChain,
-}
+pub type Chain = Number<8>;
 
 impl Chain {
     pub const FIRST: usize = 1;
 
     pub const LAST: usize = 8;
+}
 
-    pub fn new(n: usize, last: usize) -> ChainOr
-        ensures { result ≡ chain_of n last }
+impl<const LAST: usize> Number<LAST> {
+    pub fn new(n: usize, last: usize) -> Option<Self>
+        ensures { result ≡ numbered n last }
     {
-        if is_outside(Self::FIRST, last, n) {
-            return ChainOr::NoChain;
+        if is_outside(1, last, n) {
+            return None;
         }
-        ChainOr::IsChain(Chain { n })
+        Some(Number { n })
+    }
+
+    // The number at byte i of a record that begins at `at`: "a field outside its range" is refused at its first byte.
+    pub fn field(rest: &[u8], i: usize, at: usize, last: usize) -> Result<Self, Refusal>
+        requires in_record { i < length rest.now }
+        requires fits { at + i < 2 ^ 64 }
+        ensures { result ≡ field rest.now i at last }
+    {
+        Self::new(wide(rest[i]), last).ok_or(Fault::OutOfRange.at(at + i))
     }
 }
 
 pub fn is_outside(first: usize, last: usize, n: usize) -> bool
     ensures { result ≡ outside first last n }
 {
-    if n < first {
-        return true;
-    }
-    last < n
+    n < first || last < n
 }
 
 pub fn wide(b: u8) -> usize
     ensures { (result ≡ b) × (result < 256) }
 {
     b as usize
-}
-
-// The centre number, or the chain number, at a byte of a record.
-
-pub fn centre_at(rest: &[u8], i: usize, last: usize) -> CentreOr
-    requires { i < length rest.now }
-    ensures { result ≡ centre_of (get_or rest.now i 0) last }
-{
-    Centre::new(wide(rest[i]), last)
-}
-
-pub fn chain_at(rest: &[u8], i: usize, last: usize) -> ChainOr
-    requires { i < length rest.now }
-    ensures { result ≡ chain_of (get_or rest.now i 0) last }
-{
-    Chain::new(wide(rest[i]), last)
 }

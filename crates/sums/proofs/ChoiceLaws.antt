@@ -11,3 +11,7 @@ module _ {A : Type 0} where
   pub chose_two : (b : Bool) (one two x : A) → (one ≡ x → ⊥) → choose b (λ u. one) (λ u. two) ≡ x → (b ≡ false) × (two ≡ x)
   chose_two true one two x n e = absurd (n e)
   chose_two false one two x n e = (refl, e)
+
+  pub chose_first : (b : Bool) (one two x : A) → (two ≡ x → ⊥) → choose b (λ u. one) (λ u. two) ≡ x → (b ≡ true) × (one ≡ x)
+  chose_first true one two x n e = (refl, e)
+  chose_first false one two x n e = absurd (n e)

@@ -7,6 +7,6 @@ pub returns-then-n-first : goal.returns-then-n-first
 unfolding outside
 returns-then-n-first c = rw (lt-ltb _ _ c.if-n-first.true)
 
-pub returns : goal.returns
+pub returns-else-n-first : goal.returns-else-n-first
 unfolding outside
-returns c = rw (le-ltb _ _ c.if-n-first.false)
+returns-else-n-first c = rw (le-ltb _ _ c.if-n-first.false)

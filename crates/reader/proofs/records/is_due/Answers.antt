@@ -1,21 +1,34 @@
--- `reader::records::is_due`. At each `return` the tests that led there pick the list of kinds that is due.
-use Rattle.reader.proofs.DueLaws.{due_size, due_window, due_load, due_first, due_low, due_tree}
+-- `reader::records::is_due`. The tests lead to one of four stages, at which the definition's list is known.
+use mathlib.Core.Path.{refl}
+use Rattle.sums.specs.Lists.{some}
+use Rattle.reader.proofs.DueLaws.{at_size, at_window, at_load, at_tree, load_or_leaf, in_tree, not_size, not_window, not_load, not_tree}
 use Rattle.reader.proofs.records.is_due.Goals as goal
 
-pub returns-then-m-eq0 : goal.returns-then-m-eq0
-returns-then-m-eq0 c = search due_size
+pub returns-in-Size : goal.returns-in-Size
+unfolding some
+returns-in-Size c = rw (at_size c.args.m c.if-m-eq0.true, c.in-Size.is) refl
 
-pub returns-then-m : goal.returns-then-m
-returns-then-m c = search due_window
+pub returns-in_default : goal.returns-in_default
+returns-in_default c = rw (at_size c.args.m c.if-m-eq0.true) (not_size _ c.in_default.not-Size)
 
-pub returns-then-kind-eq3 : goal.returns-then-kind-eq3
-returns-then-kind-eq3 c = search due_load
+pub returns-in-Window : goal.returns-in-Window
+unfolding some
+returns-in-Window c = rw (at_window c.args.m c.if-m-eq0.false c.if-m.true, c.in-Window.is) refl
 
-pub returns-then-m-eq0-2 : goal.returns-then-m-eq0-2
-returns-then-m-eq0-2 c = search due_first
+pub returns-in_default-matches : goal.returns-in_default-matches
+returns-in_default-matches c = rw (at_window c.args.m c.if-m-eq0.false c.if-m.true) (not_window _ c.in_default-matches.not-Window)
 
-pub returns-then-kind-lt4 : goal.returns-then-kind-lt4
-returns-then-kind-lt4 c = search due_low
+pub returns-in-Load : goal.returns-in-Load
+returns-in-Load c = rw (at_load c.args.m c.if-m-eq0.false c.if-m.false c.if-m-eq0-2.true) (load_or_leaf c.in-Load.is)
 
-pub returns : goal.returns
-returns c = search due_tree
+pub returns-in_default-matches-2 : goal.returns-in_default-matches-2
+returns-in_default-matches-2 c =
+    rw (at_load c.args.m c.if-m-eq0.false c.if-m.false c.if-m-eq0-2.true) (not_load _ c.in_default-matches-2.not-Load c.in_default-matches-2.not-Leaf)
+
+pub returns-in-Leaf : goal.returns-in-Leaf
+returns-in-Leaf c = rw (at_tree c.args.m c.if-m-eq0.false c.if-m.false c.if-m-eq0-2.false) (in_tree c.in-Leaf.is)
+
+pub returns-in_default-matches-3 : goal.returns-in_default-matches-3
+returns-in_default-matches-3 c =
+    let other = c.in_default-matches-3 in
+    rw (at_tree c.args.m c.if-m-eq0.false c.if-m.false c.if-m-eq0-2.false) (not_tree _ other.not-Leaf other.not-Join other.not-End)

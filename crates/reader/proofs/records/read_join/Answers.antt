@@ -7,7 +7,7 @@ use Rattle.reader.proofs.records.read_join.Goals as goal
 
 pub returns-then-m-lt2 : goal.returns-then-m-lt2
 unfolding said Room
-returns-then-m-lt2 c = (join_few _ _ _ (omega (arith, c.if-m-lt2.true)), tt)
+returns-then-m-lt2 c = rw c.at.ensures (join_few _ _ _ (omega (arith, c.if-m-lt2.true)), tt)
 
 pub returns : goal.returns
 unfolding said Room

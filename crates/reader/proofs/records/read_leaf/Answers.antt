@@ -1,25 +1,34 @@
 -- `reader::records::read_leaf`. At each `return` a law of NodeLaws turns the tests that led there into the definition's value. A
 -- centre that is not in the tree yet leaves room for one node more.
+use mathlib.Core.Path.{refl}
 use Rattle.reader.specs.Said.{said, Room}
+use Rattle.reader.proofs.HandedLaws.{handed_on}
 use Rattle.reader.proofs.NodeLaws.{leaf_centre, leaf_first, leaf_again, leaf_fits, leaf_more}
-use Rattle.reader.proofs.NumberLaws.{centre_within}
+use Rattle.reader.proofs.NumberLaws.{field_within}
 use Rattle.reader.proofs.records.read_leaf.Goals as goal
 
-pub returns-in_default : goal.returns-in_default
+pub returns-in_err-centre : goal.returns-in_err-centre
 unfolding said Room
-returns-in_default c = (search leaf_centre, tt)
+returns-in_err-centre c = rw (handed_on _ c.from_residual.ensures.1) (leaf_centre _ _ _ c.in_err-centre.ensures refl, tt)
 
 pub is_placed-again-requires : goal.is_placed-again-requires
-is_placed-again-requires c = search centre_within
+is_placed-again-requires c = field_within _ _ _ _ c.field.ensures c.in_ok-centre.was c.requires.sound.centres_few
 
 pub returns-then-fails : goal.returns-then-fails
 unfolding said Room
-returns-then-fails c = (search leaf_first, tt)
+returns-then-fails c = rw c.at.ensures (leaf_first _ _ _ c.field.ensures c.in_ok-centre.was c.first_leaf_fails-fails.ensures c.if-fails.true, tt)
 
 pub returns-then-again : goal.returns-then-again
 unfolding said Room
-returns-then-again c = (search leaf_again, tt)
+returns-then-again c = rw c.at-then-again.ensures (leaf_again _ _ _ c.field.ensures c.in_ok-centre.was c.first_leaf_fails-fails.ensures c.if-fails.false c.is_placed-again.ensures c.if-again.true, tt)
 
 pub returns : goal.returns
 unfolding said Room
-returns c = (search leaf_more, search (centre_within, leaf_fits))
+returns c =
+    let centre = c.in_ok-centre.was in (
+      leaf_more _ _ _ c.field.ensures centre c.first_leaf_fails-fails.ensures c.if-fails.false c.is_placed-again.ensures c.if-again.false,
+      (
+        field_within _ _ _ _ c.field.ensures centre c.requires.sound.centres_few,
+        leaf_fits _ _ _ c.requires.sound c.field.ensures centre c.is_placed-again.ensures c.if-again.false,
+      ),
+    )

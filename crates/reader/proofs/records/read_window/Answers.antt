@@ -5,11 +5,11 @@ use Rattle.reader.proofs.records.read_window.Goals as goal
 
 pub returns-then-wide-m : goal.returns-then-wide-m
 unfolding said Room
-returns-then-wide-m c = (search window_chain, tt)
+returns-then-wide-m c = rw c.at.ensures (search window_chain, tt)
 
 pub returns-then-is_outside : goal.returns-then-is_outside
 unfolding said Room
-returns-then-is_outside c = (search window_out, tt)
+returns-then-is_outside c = rw c.at-then-is_outside.ensures (search window_out, tt)
 
 pub returns : goal.returns
 unfolding said Room
