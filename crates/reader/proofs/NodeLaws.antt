@@ -33,14 +33,14 @@ module _ (rest : List ℕ) (at : ℕ) (m : Model) where
     leaf_centre f = rw (field_out _ _ _ _ e f, ← field_place _ _ _ _ e f)
 
     module _ {c : Number 16} (f : x ≡ Ok c) {u : Bool} (g : u ≡ (eqb m.count 0 && chain_without_centre m)) where
-      pub leaf_first : u ≡ true → refuse Fault.ChainWithoutCentre at m ≡ read_leaf rest at m
+      pub leaf_first : {r : Refusal} → r ≡ record { fault = Fault.ChainWithoutCentre; place = at } → u ≡ true → record { step = Err r; model = m } ≡ read_leaf rest at m
       unfolding read_leaf
-      leaf_first h = rw (field_in _ _ _ _ e f, ← g, h)
+      leaf_first i h = rw (i, field_in _ _ _ _ e f, ← g, h)
 
       module _ (h : u ≡ false) {v : Bool} (i : v ≡ not (eqb (get_or m.placed (c.n - 1) 0) 0)) where
-        pub leaf_again : v ≡ true → refuse Fault.CentreAgain (at + 1) m ≡ read_leaf rest at m
+        pub leaf_again : {r : Refusal} → r ≡ record { fault = Fault.CentreAgain; place = at + 1 } → v ≡ true → record { step = Err r; model = m } ≡ read_leaf rest at m
         unfolding read_leaf
-        leaf_again j = rw (field_in _ _ _ _ e f, ← g, h, field_is _ _ _ _ e f, ← i, j)
+        leaf_again n j = rw (n, field_in _ _ _ _ e f, ← g, h, field_is _ _ _ _ e f, ← i, j)
 
         pub leaf_more : v ≡ false → more (with_leaf m at c.n) ≡ read_leaf rest at m
         unfolding read_leaf

@@ -16,19 +16,15 @@ is_placed-again-requires c = field_within _ _ _ _ c.field.ensures c.in_ok-centre
 
 pub returns-then-fails : goal.returns-then-fails
 unfolding said Room
-returns-then-fails c = rw c.at.ensures (leaf_first _ _ _ c.field.ensures c.in_ok-centre.was c.first_leaf_fails-fails.ensures c.if-fails.true, tt)
+returns-then-fails c = (search (leaf_first c.args.rest.now c.args.at c.args.m c.field.ensures c.in_ok-centre.was), tt)
 
 pub returns-then-again : goal.returns-then-again
 unfolding said Room
-returns-then-again c = rw c.at-then-again.ensures (leaf_again _ _ _ c.field.ensures c.in_ok-centre.was c.first_leaf_fails-fails.ensures c.if-fails.false c.is_placed-again.ensures c.if-again.true, tt)
+returns-then-again c = (search (leaf_again c.args.rest.now c.args.at c.args.m c.field.ensures c.in_ok-centre.was), tt)
 
 pub returns : goal.returns
 unfolding said Room
-returns c =
-    let centre = c.in_ok-centre.was in (
-      leaf_more _ _ _ c.field.ensures centre c.first_leaf_fails-fails.ensures c.if-fails.false c.is_placed-again.ensures c.if-again.false,
-      (
-        field_within _ _ _ _ c.field.ensures centre c.requires.sound.centres_few,
-        leaf_fits _ _ _ c.requires.sound c.field.ensures centre c.is_placed-again.ensures c.if-again.false,
-      ),
-    )
+returns c = (
+  search (leaf_more c.args.rest.now c.args.at c.args.m c.field.ensures c.in_ok-centre.was),
+  (field_within _ _ _ _ c.field.ensures c.in_ok-centre.was c.requires.sound.centres_few, leaf_fits _ _ _ c.requires.sound c.field.ensures c.in_ok-centre.was c.is_placed-again.ensures c.if-again.false),
+)
