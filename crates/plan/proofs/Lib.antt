@@ -10,6 +10,6 @@ pub mod EntryLaws
 pub mod EntriesLaws
 pub mod ModelLaws
 pub mod GrownLaws
+pub mod PreparedLaws
 pub mod LowerLaws
 pub mod PlanLaws
-pub mod PreparedLaws

@@ -1,10 +1,10 @@
--- What a file and a chain to lower ask for, with what stands beside it.
-use Rattle.std.specs.Prelude.{ℕ, ◌≤◌, ◌≡◌, List, length, get_or}
+-- What a file and a chain to lower ask for: a refusal, or a run.
+use Rattle.std.specs.Prelude.{ℕ, ◌≤◌, ◌≡◌, List, Result, Ok, Err, IfOk, length, get_or, take}
 use Rattle.modelfile.specs.declared.Model.{Model}
 use Rattle.modelfile.proofs.Guaranteed.{Guaranteed}
+use Rattle.calls.specs.Asked.{Asked, refused, granted}
+use Rattle.calls.specs.declared.Refusal.{Refusal}
 use Rattle.plan.specs.Table.{Tabled}
-use Rattle.plan.specs.Lowered.{asked_of}
-use Rattle.plan.specs.declared.Asked.{Asked}
 use Rattle.plan.specs.declared.Chains.{Chains}
 use Rattle.plan.specs.declared.Run.{Run}
 use Rattle.plan.specs.declared.Table.{Table}
@@ -16,10 +16,18 @@ pub record Prepared (m : Model) (windows : List ℕ) (t : Table) : Type 0 where
   pub windows_low : (k : ℕ) → get_or windows k 0 ≤ 15
   pub tabled : Tabled m windows t
 
+abbrev pub Ready : Run → Type 0
+Ready run = Prepared run.model run.windows run.table
+
 -- the chains of a run
 abbrev pub chains_of : Model → List ℕ → Table → Chains
 chains_of m windows t = record { count = m.chains; totals = t.totals; windows = windows }
 
-pub record RunFor (asked : Rattle.calls.specs.Asked.Asked) (r : Run) : Type 0 where
-  pub answer : asked_of r.asked r.model r.windows ≡ asked
-  pub prepared : r.asked ≡ Asked.Granted → Prepared r.model r.windows r.table
+-- what the code answers, as the definition of the calls has it: the windows of the run stand at the front of their array
+unfoldable pub asked_of : Result Run Refusal → Asked
+asked_of (Err r) = refused r
+asked_of (Ok run) = granted run.model (take run.model.chains run.windows)
+
+pub record RunFor (asked : Asked) (r : Result Run Refusal) : Type 0 where
+  pub answer : asked_of r ≡ asked
+  pub ready : IfOk r Ready

@@ -1,16 +1,9 @@
--- What the code answers to "a chain to lower", as the definition of the calls has it.
-use Rattle.std.specs.Prelude.{ℕ, ◌≤◌, ◌≡◌, List, length, get_or, take}
+-- What the code answers to "a chain to lower", as the definition of the calls has it: the windows of the run stand at the front of their array.
+use Rattle.std.specs.Prelude.{ℕ, List, Result, Ok, Err, take}
 use Rattle.modelfile.specs.declared.Model.{Model}
-use Rattle.calls.specs.Asked.{refused, granted, lowering}
-use Rattle.plan.specs.declared.Asked.{Asked}
-use Rattle.plan.specs.declared.Lowering.{Lowering}
+use Rattle.calls.specs.Asked.{Asked, refused, granted}
+use Rattle.calls.specs.declared.Refusal.{Refusal}
 
--- the windows of the run stand beside the answer, at the front of their array
-unfoldable pub asked_of : Asked → Model → List ℕ → Rattle.calls.specs.Asked.Asked
-asked_of (Asked.Refused number place) m windows = refused number place
-asked_of Asked.Granted m windows = granted m (take m.chains windows)
-
-pub record Lowered (m : Model) (lower : ℕ) (r : Lowering) : Type 0 where
-  pub answer : asked_of r.asked m r.windows ≡ lowering m lower
-  pub long : length r.windows ≡ 8
-  pub small : (k : ℕ) → get_or r.windows k 0 ≤ 15
+unfoldable pub lowered_of : Model → Result (List ℕ) Refusal → Asked
+lowered_of m (Err r) = refused r
+lowered_of m (Ok windows) = granted m (take m.chains windows)

@@ -11,7 +11,7 @@ pub mod windows; // windows.rt: the windows of a run
 ghost use Rattle.calls.specs.Promises.{PlanAllows};
 
 use crate::asking::prepare;
-use calls::PlanAnswer;
+use calls::{Planned, Refusal};
 use modelfile::Model;
 
 // A chain's coverage at a node.
@@ -63,40 +63,21 @@ pub struct Table {
     pub pairs: u64,
 }
 
-// Whether a run is granted; if it is, its windows stand beside.
-#[derive(Clone, Copy)]
-pub enum Asked {
-    Refused { number: u64, place: u64 },
-    Granted,
-}
-
-#[derive(Clone, Copy)]
-pub struct Lowering {
-    pub asked: Asked,
-    pub windows: [usize; 8],
-}
-
-// What a file and a chain to lower ask for: where it is granted, the model, the windows of the run and their table stand beside.
+// A model of an accepted file, the windows of a run of it, and their table.
 #[derive(Clone, Copy)]
 pub struct Run {
-    pub asked: Asked,
     pub model: Model,
     pub windows: [usize; 8],
     pub table: Table,
 }
 
 // "Plan returns cells and pairs."
-pub fn plan(file: &[u8], lower: u64) -> PlanAnswer
+pub fn plan(file: &[u8], lower: u64) -> Result<Planned, Refusal>
     ensures { PlanAllows file.now lower result }
 {
-    let run = prepare(file, lower);
-    let asked = run.asked;
-    let t = run.table;
-    match asked {
-        Asked::Refused { number, place } => PlanAnswer::Refused { number, place },
-        Asked::Granted => PlanAnswer::Planned {
-            cells: t.cells as u64,
-            pairs: t.pairs,
-        },
-    }
+    let run = prepare(file, lower)?;
+    Ok(Planned {
+        cells: run.table.cells as u64,
+        pairs: run.table.pairs,
+    })
 }

@@ -1,4 +1,3 @@
-pub mod HandedLaws
 pub mod NumberLaws
 pub mod FieldLaws
 pub mod NodeLaws

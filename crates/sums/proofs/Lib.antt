@@ -1,3 +1,4 @@
+pub mod HandedLaws
 pub mod ChoiceLaws
 pub mod BoolLaws
 pub mod SearchLaws

@@ -2,7 +2,7 @@
 -- centre that is not in the tree yet leaves room for one node more.
 use mathlib.Core.Path.{refl}
 use Rattle.reader.specs.Said.{said, Room}
-use Rattle.reader.proofs.HandedLaws.{handed_on}
+use Rattle.sums.proofs.HandedLaws.{handed_on}
 use Rattle.reader.proofs.NodeLaws.{leaf_centre, leaf_first, leaf_again, leaf_fits, leaf_more}
 use Rattle.reader.proofs.NumberLaws.{field_within}
 use Rattle.reader.proofs.records.read_leaf.Goals as goal

@@ -1,7 +1,7 @@
 -- `reader::records::read_load`. At each `return` a law of FieldLaws turns the tests that led there into the definition's value.
 use mathlib.Core.Path.{refl}
 use Rattle.reader.specs.Said.{said, Room}
-use Rattle.reader.proofs.HandedLaws.{handed_on}
+use Rattle.sums.proofs.HandedLaws.{handed_on}
 use Rattle.reader.proofs.FieldLaws.{load_centre, load_chain, load_out, load_order, load_more}
 use Rattle.reader.proofs.NumberLaws.{field_within}
 use Rattle.reader.proofs.records.read_load.Goals as goal

@@ -1,7 +1,7 @@
 -- `reader::records::read_size`. At each `return` a law of FieldLaws turns the tests that led there into the definition's value.
 use mathlib.Core.Path.{refl}
 use Rattle.reader.specs.Said.{said, Room}
-use Rattle.reader.proofs.HandedLaws.{handed_on}
+use Rattle.sums.proofs.HandedLaws.{handed_on}
 use Rattle.reader.proofs.FieldLaws.{size_centre, size_chain, size_more}
 use Rattle.reader.proofs.records.read_size.Goals as goal
 
