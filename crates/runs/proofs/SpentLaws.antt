@@ -1,24 +1,24 @@
 -- What a walk over the listed pairs tells of an advance: what is left of the budget gives the number done, which stays within the total, and
 -- the rest is as the pairs spent say.
 use Prim.Native.Nat.{ℕ, ◌+◌, ◌-◌, ◌≤◌, ◌<◌, ◌^◌}
-use mathlib.Core.Path.{◌≡◌, sym, ap, ◌∙◌}
+use mathlib.Core.Path.{◌≡◌, refl, sym, ap, ◌∙◌}
 use mathlib.Core.Bool.{Bool, true, false, ◌||◌}
 use mathlib.Core.List.{List}
 use native.Mathlib.Omega.{arith}
 use lib.Dec.{ltb, eqb}
 use lib.ListN.{length, get_or, take, drop, length-take, length-drop}
 use borrow.Author.Tests.{lt-ltb, le-ltb, eq-eqb, ne_eqb}
+use Rattle.std.specs.Prelude.{Ok, Err}
+use Rattle.calls.specs.declared.Refusal.{Refusal}
 use Rattle.sums.specs.Choice.{choose}
 use Rattle.network.specs.Run.{Progress, spend}
 use Rattle.network.proofs.SpendLaws.{went, spend-length}
 use Rattle.modelfile.specs.declared.Model.{Model}
 use Rattle.calls.specs.Asked.{ask, pairs_listed}
 use Rattle.calls.specs.Advance.{no_advance, value_at, told, advance_in, advance}
-use Rattle.calls.specs.declared.AdvanceAnswer.{AdvanceAnswer}
+use Rattle.calls.specs.Answers.{advanced_to, stopped_at}
 use Rattle.plan.specs.Table.{windows_in}
-use Rattle.plan.specs.Lowered.{asked_of}
-use Rattle.plan.specs.Asking.{Prepared, RunFor}
-use Rattle.plan.specs.declared.Asked.{Asked}
+use Rattle.plan.specs.Asking.{Prepared, asked_of, RunFor}
 use Rattle.plan.specs.declared.Run.{Run}
 use Rattle.plan.specs.declared.Table.{Table}
 use Rattle.plan.proofs.PreparedLaws.{some_cells, pairs_counted}
@@ -83,12 +83,12 @@ module _ (m : Model) (windows : List ℕ) (t : Table) (p : Prepared m windows t)
   -- ---- the answer, test by test
 
   module _ {full : Bool} (e : full ≡ (ltb 8192 t.cells || ltb (length area) t.cells)) where
-    pub advance_full : full ≡ true → advance_in m ws done budget area ≡ no_advance 12 0 area
+    pub advance_full : full ≡ true → advance_in m ws done budget area ≡ no_advance Refusal.NoRoom area
     unfolding advance_in
     advance_full f = rw (room_is m windows t p area e ∙ f)
 
     module _ (f : full ≡ false) where
-      pub advance_high : t.pairs < done → advance_in m ws done budget area ≡ no_advance 13 0 area
+      pub advance_high : t.pairs < done → advance_in m ws done budget area ≡ no_advance Refusal.PastTotal area
       unfolding advance_in
       advance_high h = rw (room_is m windows t p area e ∙ f, ap (λ n. ltb n done) (sym p.tabled.pairs_are) ∙ lt-ltb t.pairs done h)
 
@@ -100,24 +100,24 @@ module _ (m : Model) (windows : List ℕ) (t : Table) (p : Prepared m windows t)
         unfolding advance_in
         advance-told = rw (room_is m windows t p area e ∙ f, ap (λ n. ltb n done) (sym p.tabled.pairs_are) ∙ le-ltb t.pairs done h)
 
-        pub advance_stopped : left.over ≡ true → advance_in m ws done budget area ≡ record { answer = AdvanceAnswer.Stopped (done + (budget - left.budget)); area = after }
+        pub advance_stopped : left.over ≡ true → advance_in m ws done budget area ≡ record { answer = stopped_at (done + (budget - left.budget)); area = after }
         unfolding told
         advance_stopped o = advance-told ∙ rw (sym (over_is w) ∙ o, done_is w, area_is w)
 
         pub advance_advanced : left.over ≡ false → (value : ℕ) → value ≡ choose (eqb (done + (budget - left.budget)) t.pairs) (λ u. get_or after (t.cells - 1) 0) (λ u. 0)
-            → advance_in m ws done budget area ≡ record { answer = AdvanceAnswer.Advanced (done + (budget - left.budget)) value; area = after }
+            → advance_in m ws done budget area ≡ record { answer = advanced_to (done + (budget - left.budget)) value; area = after }
         unfolding told value_at
         advance_advanced o value v =
             let x : value_at m ws progress.done progress.area ≡ value = sym (v ∙ (λ i. choose (eqb (done_is w i) (p.tabled.pairs_are i)) (λ u. get_or (area_is w i) (p.tabled.cells_are i - 1) 0) (λ u. 0))) in
-            advance-told ∙ rw (sym (over_is w) ∙ o) (λ i. record { answer = AdvanceAnswer.Advanced (sym (done_is w) i) (x i); area = sym (area_is w) i })
+            advance-told ∙ rw (sym (over_is w) ∙ o) (λ i. record { answer = advanced_to (sym (done_is w) i) (x i); area = sym (area_is w) i })
 
 -- ---- the call
 
-module _ (file : List ℕ) (lower done budget : ℕ) (area : List ℕ) (r : Run) (w : RunFor (ask file lower) r) where
-  pub advance_refused : {number place : ℕ} → r.asked ≡ Asked.Refused number place → advance file lower done budget area ≡ no_advance number place area
+module _ (file : List ℕ) (lower done budget : ℕ) (area : List ℕ) where
+  pub advance_refused : {r : Refusal} → RunFor (ask file lower) (Err r) → advance file lower done budget area ≡ no_advance r area
   unfolding advance asked_of
-  advance_refused e = rw (← w.answer, e)
+  advance_refused w = rw (← w.answer) refl
 
-  pub advance_granted : r.asked ≡ Asked.Granted → advance file lower done budget area ≡ advance_in r.model (windows_in r.model r.windows) done budget area
+  pub advance_granted : {run : Run} → RunFor (ask file lower) (Ok run) → advance file lower done budget area ≡ advance_in run.model (windows_in run.model run.windows) done budget area
   unfolding advance asked_of
-  advance_granted e = rw (← w.answer, e)
+  advance_granted w = rw (← w.answer) refl

@@ -1,21 +1,21 @@
 -- The start call, test by test: what is asked is refused, or the model has no room, or a leaf is too large, or its cells are written.
 use Prim.Native.Nat.{ℕ, ◌≤◌}
-use mathlib.Core.Path.{◌≡◌, sym, ap, ◌∙◌}
+use mathlib.Core.Path.{◌≡◌, refl, sym, ap, ◌∙◌}
 use mathlib.Core.Bool.{Bool, true, false, ◌||◌, true≢false}
 use mathlib.Core.List.{List, ◌++◌}
 use lib.Dec.{ltb}
 use lib.ListN.{length, drop}
 use borrow.Author.Tests.{ltb-false}
+use Rattle.std.specs.Prelude.{Ok, Err}
+use Rattle.calls.specs.declared.Refusal.{Refusal}
 use Rattle.sums.specs.Lists.{some}
 use Rattle.modelfile.specs.declared.Model.{Model}
 use Rattle.calls.specs.Answers.{Left}
 use Rattle.calls.specs.Asked.{ask, cells_in, filled_by}
 use Rattle.calls.specs.Start.{no_room, too_large, no_start, start_in, start}
-use Rattle.calls.specs.declared.StartAnswer.{StartAnswer}
+use Rattle.calls.specs.Answers.{is_started}
 use Rattle.plan.specs.Table.{windows_in}
-use Rattle.plan.specs.Lowered.{asked_of}
-use Rattle.plan.specs.Asking.{Prepared, RunFor}
-use Rattle.plan.specs.declared.Asked.{Asked}
+use Rattle.plan.specs.Asking.{Prepared, asked_of, RunFor}
 use Rattle.plan.specs.declared.Run.{Run}
 use Rattle.plan.specs.declared.Table.{Table}
 
@@ -31,7 +31,7 @@ module _ (m : Model) (windows : List ℕ) (t : Table) (p : Prepared m windows t)
   unfolding no_room
   room_is = sym (e ∙ ap (λ n. ltb 8192 n || ltb (length area) n) p.tabled.cells_are)
 
-  pub start_full : full ≡ true → start_in m ws area ≡ no_start 12 0 area
+  pub start_full : full ≡ true → start_in m ws area ≡ no_start Refusal.NoRoom area
   unfolding start_in
   start_full f = rw (room_is ∙ f)
 
@@ -45,19 +45,19 @@ module _ (m : Model) (windows : List ℕ) (t : Table) (p : Prepared m windows t)
         second false g = g
 
     module _ {large : Bool} (el : large ≡ some too_large (filled_by m ws)) where
-      pub start_large : large ≡ true → start_in m ws area ≡ no_start 14 0 area
+      pub start_large : large ≡ true → start_in m ws area ≡ no_start Refusal.TooLarge area
       unfolding start_in
       start_large g = rw (room_is ∙ f, sym el ∙ g)
 
-      pub start_filled : large ≡ false → start_in m ws area ≡ record { answer = StartAnswer.Started; area = filled_by m ws ++ drop (cells_in m ws) area }
+      pub start_filled : large ≡ false → start_in m ws area ≡ record { answer = is_started; area = filled_by m ws ++ drop (cells_in m ws) area }
       unfolding start_in
       start_filled g = rw (room_is ∙ f, sym el ∙ g)
 
-module _ (file : List ℕ) (lower : ℕ) (area : List ℕ) (r : Run) (w : RunFor (ask file lower) r) where
-  pub start_refused : {number place : ℕ} → r.asked ≡ Asked.Refused number place → start file lower area ≡ no_start number place area
+module _ (file : List ℕ) (lower : ℕ) (area : List ℕ) where
+  pub start_refused : {r : Refusal} → RunFor (ask file lower) (Err r) → start file lower area ≡ no_start r area
   unfolding start asked_of
-  start_refused e = rw (← w.answer, e)
+  start_refused w = rw (← w.answer) refl
 
-  pub start_granted : r.asked ≡ Asked.Granted → start file lower area ≡ start_in r.model (windows_in r.model r.windows) area
+  pub start_granted : {run : Run} → RunFor (ask file lower) (Ok run) → start file lower area ≡ start_in run.model (windows_in run.model run.windows) area
   unfolding start asked_of
-  start_granted e = rw (← w.answer, e)
+  start_granted w = rw (← w.answer) refl

@@ -18,14 +18,13 @@ use Rattle.network.proofs.CountLaws.{listed_result}
 use Rattle.network.proofs.SpendLaws.{spend-length}
 use Rattle.modelfile.specs.Network.{centres_of, tree_of}
 use Rattle.modelfile.specs.declared.Model.{Model}
-use Rattle.modelfile.proofs.Guaranteed.{Guaranteed}
 use Rattle.arith.specs.Capped.{capped}
 use Rattle.std.specs.Prelude.{Some, None}
 use Rattle.arith.proofs.CappedLaws.{capped_exact, capped_large}
 use Rattle.calls.specs.Asked.{cells_in, pairs_in, pairs_listed, filled_by}
 use Rattle.calls.specs.Start.{too_large}
 use Rattle.calls.proofs.ExactLaws.{started_area, length-filled, length_started, leaf_high, stop_high, last_value, value_low}
-use Rattle.plan.specs.Table.{Tabled, windows_in, routes_in}
+use Rattle.plan.specs.Table.{windows_in, routes_in}
 use Rattle.plan.specs.Asking.{Prepared}
 use Rattle.plan.specs.declared.Table.{Table}
 use Rattle.plan.proofs.PreparedLaws.{fits, some_cells}
@@ -45,10 +44,6 @@ spend_behind limit n (p ∷ ps) done A f = by (ltb (sum_at A p) limit) (spend_be
     by : (t : Bool) → drop n (spend limit ps (suc done) (add A p)).area ≡ drop n (add A p) → drop n (choose t (λ u. spend limit ps (suc done) (add A p)) (λ u. record { done = done; area = A; stopped = true })).area ≡ drop n A
     by true k = k ∙ one
     by false k = refl
-
--- a table that is just made
-pub prepared : (m : Model) (windows : List ℕ) (t : Table) → Guaranteed m × (length windows ≡ 8) × ((k : ℕ) → get_or windows k 0 ≤ 15) → Tabled m windows t → Prepared m windows t
-prepared m windows t g made = record { guaranteed = g.0; windows_long = g.1; windows_low = g.2; tabled = made }
 
 module _ (m : Model) (windows : List ℕ) (t : Table) (p : Prepared m windows t) where
   abbrev ws : List ℕ

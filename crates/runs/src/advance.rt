@@ -4,19 +4,18 @@ ghost use Rattle.sums.specs.Choice.{choose};
 ghost use Rattle.calls.specs.Advance.{advance_in};
 ghost use Rattle.calls.specs.Promises.{AdvanceAllows};
 ghost use Rattle.plan.specs.Table.{windows_in};
-ghost use Rattle.plan.specs.Asking.{Prepared};
+ghost use Rattle.plan.specs.Asking.{Ready};
 
 use crate::{last_cell, no_room};
-use calls::AdvanceAnswer;
+use calls::{Advanced, Halted, Refusal};
 use joins::Quota;
-use modelfile::Model;
 use plan::asking::prepare;
-use plan::{Asked, Table};
+use plan::{Run, Table};
 
 // The value, once all pairs are done.
-fn value_at(area: &[u64], t: Table, done: u64) -> u64
-    requires { (1 ≤ t.cells) × (t.cells ≤ length area.now) }
-    ensures { result ≡ choose (eqb done t.pairs) (λ u. get_or area.now (t.cells - 1) 0) (λ u. 0) }
+fn value_at(area: &[u64], t: &Table, done: u64) -> u64
+    requires { (1 ≤ t.now.cells) × (t.now.cells ≤ length area.now) }
+    ensures { result ≡ choose (eqb done t.now.pairs) (λ u. get_or area.now (t.now.cells - 1) 0) (λ u. 0) }
 {
     if done == t.pairs {
         last_cell(area, t.cells)
@@ -25,57 +24,43 @@ fn value_at(area: &[u64], t: Table, done: u64) -> u64
     }
 }
 
-fn advance_in(
-    m: Model,
-    windows: [usize; 8],
-    t: Table,
-    done: u64,
-    budget: u64,
-    area: &mut [u64],
-) -> AdvanceAnswer
-    requires { Prepared m windows t }
-    ensures answer { result ≡ (advance_in m (windows_in m windows) done budget area.old).answer }
-    ensures left { area.new ≡ (advance_in m (windows_in m windows) done budget area.old).area }
+fn advance_in(run: &Run, done: u64, budget: u64, area: &mut [u64]) -> Result<Advanced, Halted>
+    requires { Ready run.now }
+    ensures answer { result ≡ (advance_in run.now.model (windows_in run.now.model run.now.windows) done budget area.old).answer }
+    ensures left { area.new ≡ (advance_in run.now.model (windows_in run.now.model run.now.windows) done budget area.old).area }
 {
-    if no_room(t.cells, area.len()) {
-        return AdvanceAnswer::Refused {
-            number: 12,
-            place: 0,
-        };
+    if no_room(run.table.cells, area.len()) {
+        return Err(Halted::Refused(Refusal::NoRoom));
     }
-    if t.pairs < done {
-        return AdvanceAnswer::Refused {
-            number: 13,
-            place: 0,
-        };
+    if run.table.pairs < done {
+        return Err(Halted::Refused(Refusal::PastTotal));
     }
     let all = Quota {
         skip: done as usize,
         budget: budget as usize,
         over: false,
     };
-    let left = spends::spend(m, windows, t, area, all);
+    let left = spends::spend(run.model, run.windows, run.table, area, all);
     let after = done + (budget - left.budget as u64);
     if left.over {
-        return AdvanceAnswer::Stopped { done: after };
+        return Err(Halted::Stopped { done: after });
     }
-    AdvanceAnswer::Advanced {
+    Ok(Advanced {
         done: after,
-        value: value_at(area, t, after),
-    }
+        value: value_at(area, &run.table, after),
+    })
 }
 
 // "It adds pairs to whatever the area holds"; what it refuses it leaves untouched.
-pub fn advance(file: &[u8], lower: u64, done: u64, budget: u64, area: &mut [u64]) -> AdvanceAnswer
+pub fn advance(
+    file: &[u8],
+    lower: u64,
+    done: u64,
+    budget: u64,
+    area: &mut [u64],
+) -> Result<Advanced, Halted>
     ensures { AdvanceAllows file.now lower done budget area.old result area.new }
 {
-    let run = prepare(file, lower);
-    let asked = run.asked;
-    let m = run.model;
-    let windows = run.windows;
-    let t = run.table;
-    match asked {
-        Asked::Refused { number, place } => AdvanceAnswer::Refused { number, place },
-        Asked::Granted => advance_in(m, windows, t, done, budget, area),
-    }
+    let run = prepare(file, lower)?;
+    advance_in(&run, done, budget, area)
 }

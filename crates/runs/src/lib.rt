@@ -8,22 +8,18 @@ ghost use Rattle.std.specs.Prelude.{◌≡◌, ◌||◌, ◌-◌, ◌≤◌, ltb
 ghost use Rattle.calls.specs.Start.{start_in};
 ghost use Rattle.calls.specs.Promises.{StartAllows};
 ghost use Rattle.plan.specs.Table.{windows_in};
-ghost use Rattle.plan.specs.Asking.{Prepared};
+ghost use Rattle.plan.specs.Asking.{Ready};
 
-use calls::StartAnswer;
+use calls::Refusal;
 use fills::{fill, some_leaf_too_large};
-use modelfile::Model;
+use plan::Run;
 use plan::asking::prepare;
-use plan::{Asked, Table};
 
 // 12: "cells above 8192 or above the area's length".
 pub fn no_room(cells: usize, length: usize) -> bool
     ensures { result ≡ (ltb 8192 cells || ltb length cells) }
 {
-    if 8192 < cells {
-        return true;
-    }
-    length < cells
+    8192 < cells || length < cells
 }
 
 // "The model's last cell."
@@ -34,39 +30,26 @@ pub fn last_cell(area: &[u64], cells: usize) -> u64
     area[cells - 1]
 }
 
-fn start_in(m: Model, windows: [usize; 8], t: Table, area: &mut [u64]) -> StartAnswer
-    requires { Prepared m windows t }
-    ensures answer { result ≡ (start_in m (windows_in m windows) area.old).answer }
-    ensures left { area.new ≡ (start_in m (windows_in m windows) area.old).area }
+fn start_in(run: &Run, area: &mut [u64]) -> Result<(), Refusal>
+    requires { Ready run.now }
+    ensures answer { result ≡ (start_in run.now.model (windows_in run.now.model run.now.windows) area.old).answer }
+    ensures left { area.new ≡ (start_in run.now.model (windows_in run.now.model run.now.windows) area.old).area }
 {
-    if no_room(t.cells, area.len()) {
-        return StartAnswer::Refused {
-            number: 12,
-            place: 0,
-        };
+    if no_room(run.table.cells, area.len()) {
+        return Err(Refusal::NoRoom);
     }
     let rows = binomials::rows();
-    if some_leaf_too_large(&rows, m, windows, t) {
-        return StartAnswer::Refused {
-            number: 14,
-            place: 0,
-        };
+    if some_leaf_too_large(&rows, run.model, run.windows, run.table) {
+        return Err(Refusal::TooLarge);
     }
-    fill(&rows, m, windows, t, area);
-    StartAnswer::Started
+    fill(&rows, run.model, run.windows, run.table, area);
+    Ok(())
 }
 
 // "A start writes each leaf's weights and sets every cell of a join to 0"; what it refuses it leaves untouched.
-pub fn start(file: &[u8], lower: u64, area: &mut [u64]) -> StartAnswer
+pub fn start(file: &[u8], lower: u64, area: &mut [u64]) -> Result<(), Refusal>
     ensures { StartAllows file.now lower area.old result area.new }
 {
-    let run = prepare(file, lower);
-    let asked = run.asked;
-    let m = run.model;
-    let windows = run.windows;
-    let t = run.table;
-    match asked {
-        Asked::Refused { number, place } => StartAnswer::Refused { number, place },
-        Asked::Granted => start_in(m, windows, t, area),
-    }
+    let run = prepare(file, lower)?;
+    start_in(&run, area)
 }

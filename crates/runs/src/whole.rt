@@ -1,40 +1,40 @@
 // A whole run in one call: the value of a model under the windows of a run, or that it is too large.
-ghost use Rattle.std.specs.Prelude.{◌≡◌, ℕ, ◌≤◌, length, get_or, take, drop};
+ghost use Rattle.std.specs.Prelude.{◌≡◌, ◌≤◌, length, drop};
 ghost use Rattle.network.specs.States.{value};
 ghost use Rattle.modelfile.specs.Network.{centres_of};
-ghost use Rattle.modelfile.proofs.Guaranteed.{Guaranteed};
 ghost use Rattle.calls.specs.Asked.{cells_in};
 ghost use Rattle.arith.specs.Capped.{capped};
 ghost use Rattle.binomials.specs.Rows.{rows as rows_of};
+ghost use Rattle.plan.specs.Table.{windows_in};
+ghost use Rattle.plan.specs.Asking.{Ready};
 
 use crate::last_cell;
 use fills::{fill, some_leaf_too_large};
 use joins::Quota;
-use modelfile::Model;
-use plan::tables::make_table;
+use plan::Run;
 use spends::spend;
 
 // The cells past the model's stay as they are.
-pub fn whole_value(rows: &[u64], m: Model, windows: [usize; 8], area: &mut [u64]) -> Option<u64>
+pub fn whole_value(rows: &[u64], run: &Run, area: &mut [u64]) -> Option<u64>
     requires rows_are { rows.now ≡ rows_of }
-    requires guaranteed { Guaranteed m × (length windows ≡ 8) × ((k : ℕ) → get_or windows k 0 ≤ 15) }
-    requires room { cells_in m (take m.chains windows) ≤ length area.old }
-    ensures value { result ≡ capped (value (centres_of m) (take m.chains windows)) }
-    ensures rest_kept { (length area.new ≡ length area.old) × (drop (cells_in m (take m.chains windows)) area.new ≡ drop (cells_in m (take m.chains windows)) area.old) }
+    requires ready { Ready run.now }
+    requires room { cells_in run.now.model (windows_in run.now.model run.now.windows) ≤ length area.old }
+    ensures value { result ≡ capped (value (centres_of run.now.model) (windows_in run.now.model run.now.windows)) }
+    ensures long { length area.new ≡ length area.old }
+    ensures past { drop (cells_in run.now.model (windows_in run.now.model run.now.windows)) area.new ≡ drop (cells_in run.now.model (windows_in run.now.model run.now.windows)) area.old }
 {
-    let t = make_table(m, windows);
-    if some_leaf_too_large(rows, m, windows, t) {
+    if some_leaf_too_large(rows, run.model, run.windows, run.table) {
         return None;
     }
-    fill(rows, m, windows, t, area);
+    fill(rows, run.model, run.windows, run.table, area);
     let all = Quota {
         skip: 0,
-        budget: t.pairs as usize,
+        budget: run.table.pairs as usize,
         over: false,
     };
-    let left = spend(m, windows, t, area, all);
+    let left = spend(run.model, run.windows, run.table, area, all);
     if left.over {
         return None;
     }
-    Some(last_cell(area, t.cells))
+    Some(last_cell(area, run.table.cells))
 }

@@ -1,13 +1,14 @@
 -- `start` meets its contract: refused as asked, or as the prepared run is started.
 use mathlib.Core.Path.{refl}
+use Rattle.sums.proofs.HandedLaws.{handed_on}
 use Rattle.runs.proofs.StartLaws.{left_is, start_refused, start_granted}
 use Rattle.runs.proofs.start.Goals as goal
 
+pub returns-in_err-run : goal.returns-in_err-run
+returns-in_err-run c = left_is (start_refused _ _ _ c.in_err-run.ensures) (handed_on _ c.from_residual.ensures.1, refl)
+
 pub start_in-requires : goal.start_in-requires
-start_in-requires c = c.prepare-run.ensures.prepared c.in-Granted.is
+start_in-requires c = c.in_ok-run.ensures.ready
 
-pub returns-in-Refused : goal.returns-in-Refused
-returns-in-Refused c = left_is (start_refused _ _ _ _ c.prepare-run.ensures c.in-Refused.is) (refl, refl)
-
-pub returns-in-Granted : goal.returns-in-Granted
-returns-in-Granted c = left_is (start_granted _ _ _ _ c.prepare-run.ensures c.in-Granted.is) (c.start_in.ensures.answer, c.start_in.ensures.left)
+pub returns : goal.returns
+returns c = left_is (start_granted _ _ _ c.in_ok-run.ensures) (c.start_in.ensures.answer, c.start_in.ensures.left)

@@ -1,29 +1,26 @@
 -- `whole_value` meets its contract: a leaf too large, a pair that stops, or all pairs done.
 use mathlib.Core.Path.{refl, sym, ap, ◌∙◌}
 use Rattle.std.specs.Prelude.{Some}
-use Rattle.runs.proofs.WholeLaws.{prepared, whole_large, room_filled, whole_kept, whole_stopped, whole_exact, last_inside}
+use Rattle.runs.proofs.WholeLaws.{whole_large, room_filled, whole_kept, whole_stopped, whole_exact, last_inside}
 use Rattle.runs.proofs.whole.whole_value.Goals as goal
 
-pub make_table-t-requires : goal.make_table-t-requires
-make_table-t-requires c = (c.requires.guaranteed.0, c.requires.guaranteed.2, c.requires.guaranteed.1)
-
 pub some_leaf_too_large-requires : goal.some_leaf_too_large-requires
-some_leaf_too_large-requires c = (c.requires.rows_are, prepared _ _ _ c.requires.guaranteed c.make_table-t.ensures)
+some_leaf_too_large-requires c = (c.requires.rows_are, c.requires.ready)
 
 pub returns-then-some_leaf_too_large : goal.returns-then-some_leaf_too_large
-returns-then-some_leaf_too_large c = record { value = whole_large _ _ _ (prepared _ _ _ c.requires.guaranteed c.make_table-t.ensures) c.args.area.now c.requires.room c.some_leaf_too_large.ensures c.if-some_leaf_too_large.true; rest_kept = (refl, refl) }
+returns-then-some_leaf_too_large c = record { value = whole_large _ _ _ c.requires.ready c.args.area.now c.requires.room c.some_leaf_too_large.ensures c.if-some_leaf_too_large.true; long = refl; past = refl }
 
 pub fill-requires : goal.fill-requires
-fill-requires c = record { rows_are = (c.requires.rows_are, prepared _ _ _ c.requires.guaranteed c.make_table-t.ensures); room = c.requires.room; none_large = sym c.some_leaf_too_large.ensures ∙ c.if-some_leaf_too_large.false }
+fill-requires c = record { rows_are = (c.requires.rows_are, c.requires.ready); room = c.requires.room; none_large = sym c.some_leaf_too_large.ensures ∙ c.if-some_leaf_too_large.false }
 
 pub spend-left-requires : goal.spend-left-requires
-spend-left-requires c = record { prepared = prepared _ _ _ c.requires.guaranteed c.make_table-t.ensures; room = room_filled _ _ _ (prepared _ _ _ c.requires.guaranteed c.make_table-t.ensures) _ c.requires.room c.some_leaf_too_large.ensures c.if-some_leaf_too_large.false c.fill.ensures }
+spend-left-requires c = record { prepared = c.requires.ready; room = room_filled _ _ _ c.requires.ready _ c.requires.room c.some_leaf_too_large.ensures c.if-some_leaf_too_large.false c.fill.ensures }
 
 pub returns-then-left : goal.returns-then-left
-returns-then-left c = record { value = whole_stopped _ _ _ (prepared _ _ _ c.requires.guaranteed c.make_table-t.ensures) _ c.requires.room c.some_leaf_too_large.ensures c.if-some_leaf_too_large.false c.fill.ensures c.spend-left.ensures c.if-left.true; rest_kept = whole_kept _ _ _ (prepared _ _ _ c.requires.guaranteed c.make_table-t.ensures) _ c.requires.room c.some_leaf_too_large.ensures c.if-some_leaf_too_large.false c.fill.ensures c.spend-left.ensures }
+returns-then-left c = record { value = whole_stopped _ _ _ c.requires.ready _ c.requires.room c.some_leaf_too_large.ensures c.if-some_leaf_too_large.false c.fill.ensures c.spend-left.ensures c.if-left.true; long = (whole_kept _ _ _ c.requires.ready _ c.requires.room c.some_leaf_too_large.ensures c.if-some_leaf_too_large.false c.fill.ensures c.spend-left.ensures).0; past = (whole_kept _ _ _ c.requires.ready _ c.requires.room c.some_leaf_too_large.ensures c.if-some_leaf_too_large.false c.fill.ensures c.spend-left.ensures).1 }
 
 pub last_cell-requires : goal.last_cell-requires
-last_cell-requires c = last_inside _ _ _ (prepared _ _ _ c.requires.guaranteed c.make_table-t.ensures) _ c.requires.room c.some_leaf_too_large.ensures c.if-some_leaf_too_large.false c.fill.ensures c.spend-left.ensures c.if-left.false
+last_cell-requires c = last_inside _ _ _ c.requires.ready _ c.requires.room c.some_leaf_too_large.ensures c.if-some_leaf_too_large.false c.fill.ensures c.spend-left.ensures c.if-left.false
 
 pub returns : goal.returns
-returns c = record { value = ap Some c.last_cell.ensures ∙ whole_exact _ _ _ (prepared _ _ _ c.requires.guaranteed c.make_table-t.ensures) _ c.requires.room c.some_leaf_too_large.ensures c.if-some_leaf_too_large.false c.fill.ensures c.spend-left.ensures c.if-left.false; rest_kept = whole_kept _ _ _ (prepared _ _ _ c.requires.guaranteed c.make_table-t.ensures) _ c.requires.room c.some_leaf_too_large.ensures c.if-some_leaf_too_large.false c.fill.ensures c.spend-left.ensures }
+returns c = record { value = ap Some c.last_cell.ensures ∙ whole_exact _ _ _ c.requires.ready _ c.requires.room c.some_leaf_too_large.ensures c.if-some_leaf_too_large.false c.fill.ensures c.spend-left.ensures c.if-left.false; long = (whole_kept _ _ _ c.requires.ready _ c.requires.room c.some_leaf_too_large.ensures c.if-some_leaf_too_large.false c.fill.ensures c.spend-left.ensures).0; past = (whole_kept _ _ _ c.requires.ready _ c.requires.room c.some_leaf_too_large.ensures c.if-some_leaf_too_large.false c.fill.ensures c.spend-left.ensures).1 }
