@@ -16,15 +16,16 @@ use Rattle.modelfile.specs.Network.{windows_of, centres_of, tree_of}
 use Rattle.modelfile.specs.declared.Model.{Model}
 use Rattle.modelfile.proofs.Guaranteed.{Guaranteed}
 use Rattle.arith.specs.Capped.{capped}
-use Rattle.std.specs.Prelude.{Some}
+use Rattle.std.specs.Prelude.{Some, Ok, Err}
 use Rattle.arith.proofs.CappedLaws.{capped_exact}
 use Rattle.calls.specs.Asked.{refused, granted, pick_asked, less_one, lowering, cells_in}
 use Rattle.calls.specs.Sheet.{numerator}
-use Rattle.calls.proofs.FileLaws.{length_windows}
+use Rattle.calls.proofs.FileLaws.{length_windows, lowering_windows}
 use Rattle.calls.proofs.GrantedLaws.{lowering-value}
-use Rattle.plan.specs.Lowered.{asked_of, Lowered}
-use Rattle.plan.specs.declared.Asked.{Asked}
-use Rattle.plan.specs.declared.Lowering.{Lowering}
+use Rattle.calls.specs.declared.Refusal.{Refusal}
+use Rattle.plan.specs.Table.{windows_in}
+use Rattle.plan.specs.Asking.{asked_of, RunFor}
+use Rattle.plan.specs.declared.Run.{Run}
 use Rattle.rates.specs.Steps.{Kept}
 
 -- ---- what is kept
@@ -58,11 +59,11 @@ pub numerator_past : (m : Model) → Guaranteed m → (k : ℕ) → m.chains ≤
 unfolding numerator
 numerator_past m g k h = lowered_none (value (centres_of m)) (windows_of m) k (get_or-eq_default (windows_of m) 0 (omega (arith, length_windows m g)))
 
-numerator-refused : (m : Model) → Guaranteed m → (k : ℕ) {number place : ℕ} → refused number place ≡ lowering m (suc k) → numerator m (suc k) ≡ 0
+numerator-refused : (m : Model) → Guaranteed m → (k : ℕ) {r : Refusal} → refused r ≡ lowering m (suc k) → numerator m (suc k) ≡ 0
 unfolding lowering numerator
-numerator-refused m g k {number} {place} e = by (ltb m.chains (suc k)) (eqb (get_or (windows_of m) k 0) 0) refl refl e
+numerator-refused m g k {r} e = by (ltb m.chains (suc k)) (eqb (get_or (windows_of m) k 0) 0) refl refl e
   where
-    by : (a z : Bool) → ltb m.chains (suc k) ≡ a → eqb (get_or (windows_of m) k 0) 0 ≡ z → refused number place ≡ pick_asked a (refused 10 0) (pick_asked z (refused 11 0) (granted m (less_one (windows_of m) k))) → lowered (suc k) (value (centres_of m)) (windows_of m) ≡ 0
+    by : (a z : Bool) → ltb m.chains (suc k) ≡ a → eqb (get_or (windows_of m) k 0) 0 ≡ z → refused r ≡ pick_asked a (refused Refusal.NoSuchChain) (pick_asked z (refused Refusal.WindowZero) (granted m (less_one (windows_of m) k))) → lowered (suc k) (value (centres_of m)) (windows_of m) ≡ 0
     by true z p q d = lowered_none (value (centres_of m)) (windows_of m) k (get_or-eq_default (windows_of m) 0 (omega (arith, length_windows m g, ltb-true m.chains (suc k) p)))
     by false true p q d = lowered_none (value (centres_of m)) (windows_of m) k (eqb-true (get_or (windows_of m) k 0) 0 q)
     by false false p q d = let x : ◌≡◌ {A = ℕ} 0 1 = cc in absurd (omega arith)
@@ -84,7 +85,7 @@ unfolding lowering
 granted_fewer m zero windows e = let d : windows_of m ≡ windows = cc in subst (λ w. Fewer w (windows_of m)) d (refl, λ k. omega arith)
 granted_fewer m (suc i) windows e = by (ltb m.chains (suc i)) (eqb (get_or (windows_of m) i 0) 0) e
   where
-    by : (a b : Bool) → granted m windows ≡ pick_asked a (refused 10 0) (pick_asked b (refused 11 0) (granted m (less_one (windows_of m) i))) → Fewer windows (windows_of m)
+    by : (a b : Bool) → granted m windows ≡ pick_asked a (refused Refusal.NoSuchChain) (pick_asked b (refused Refusal.WindowZero) (granted m (less_one (windows_of m) i))) → Fewer windows (windows_of m)
     by true b f = let z : ◌≡◌ {A = ℕ} 0 1 = cc in absurd (omega arith)
     by false true f = let z : ◌≡◌ {A = ℕ} 0 1 = cc in absurd (omega arith)
     by false false f =
@@ -93,23 +94,32 @@ granted_fewer m (suc i) windows e = by (ltb m.chains (suc i)) (eqb (get_or (wind
 
 -- ---- the two cases of the code
 
-module _ (m : Model) (g : Guaranteed m) (chain : ℕ) (l : Lowering) (w : Lowered m chain l) where
-  pub not_run : {number place : ℕ} → 1 ≤ chain → l.asked ≡ Asked.Refused number place → Some 0 ≡ capped (numerator m chain)
+module _ (m : Model) (g : Guaranteed m) (chain : ℕ) where
+  pub not_run : {r : Refusal} → RunFor (lowering m chain) (Err r) → 1 ≤ chain → Some 0 ≡ capped (numerator m chain)
   unfolding asked_of
-  not_run {number} {place} h e =
+  not_run {r} w h =
       let f : suc (chain - 1) ≡ chain = omega arith in
-      let d : refused number place ≡ lowering m (suc (chain - 1)) = sym (ap (λ a. asked_of a m l.windows) e) ∙ w.answer ∙ ap (lowering m) (sym f) in
+      let d : refused r ≡ lowering m (suc (chain - 1)) = w.answer ∙ ap (lowering m) (sym f) in
       let z : numerator m chain ≡ 0 = ap (numerator m) (sym f) ∙ numerator-refused m g (chain - 1) d in
       sym (capped_exact {n = 0} (omega arith)) ∙ ap capped (sym z)
 
-  module _ (e : l.asked ≡ Asked.Granted) where
-    runs : granted m (take m.chains l.windows) ≡ lowering m chain
+  module _ {run : Run} (w : RunFor (lowering m chain) (Ok run)) where
+    abbrev windows : List ℕ
+    windows = windows_in run.model run.windows
+
+    model_is : m ≡ run.model
     unfolding asked_of
-    runs = sym (ap (λ a. asked_of a m l.windows) e) ∙ w.answer
+    model_is = (lowering_windows m chain run.model windows (sym w.answer)).0
 
-    pub run_cells : cells_in m (take m.chains l.windows) ≤ cells_in m (windows_of m)
-    run_cells = let f = granted_fewer m chain (take m.chains l.windows) runs in cells_rise (routes_of (centres_of m)) (take m.chains l.windows) (windows_of m) f.0 f.1 (tree_of m)
+    runs : granted m windows ≡ lowering m chain
+    unfolding asked_of
+    runs = ap (λ n. granted n windows) model_is ∙ w.answer
 
-    pub run_value : value (centres_of m) (take m.chains l.windows) ≡ numerator m chain
+    pub run_cells : cells_in run.model windows ≤ cells_in m (windows_of m)
+    run_cells =
+        let f = granted_fewer m chain windows runs in
+        subst (λ n. cells_in n windows ≤ cells_in m (windows_of m)) model_is (cells_rise (routes_of (centres_of m)) windows (windows_of m) f.0 f.1 (tree_of m))
+
+    pub run_value : value (centres_of run.model) windows ≡ numerator m chain
     unfolding numerator
-    run_value = lowering-value m chain m (take m.chains l.windows) (length_windows m g) (sym runs)
+    run_value = ap (λ n. value (centres_of n) windows) (sym model_is) ∙ lowering-value m chain m windows (length_windows m g) (sym runs)

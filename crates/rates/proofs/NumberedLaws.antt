@@ -25,7 +25,7 @@ use Rattle.calls.specs.Start.{too_large}
 use Rattle.calls.specs.Sheet.{numerator, numerators}
 use Rattle.plan.specs.Table.{padded, row}
 use Rattle.plan.proofs.RowLaws.{Rowed, rowed_first, rowed_turn, rowed_last}
-use Rattle.rates.specs.Steps.{Kept, Numbered}
+use Rattle.rates.specs.Steps.{Kept, numerators_of}
 use Rattle.rates.proofs.LoweredLaws.{numerator_past, kept_same, kept_then}
 
 -- ---- a row that is 0 past its end
@@ -81,24 +81,19 @@ module _ (m : Model) (g : Guaranteed m) where
         kept = kept_then w.kept q;
       }
 
-  pub lowerings_stop : {k : ℕ} (numbers : List ℕ) {r : Option ℕ} → k < m.chains → r ≡ capped (numerator m (k + 1)) → r ≡ None → Numbered m (record { numbers = numbers; large = true })
-  unfolding numerators
-  lowerings_stop {k} numbers h e d =
+  pub lowerings_stop : {k : ℕ} {r : Option ℕ} → k < m.chains → r ≡ capped (numerator m (k + 1)) → r ≡ None → None ≡ numerators_of m
+  unfolding numerators numerators_of
+  lowerings_stop {k} h e d =
       let o : 1 + k ≡ k + 1 = omega arith in
       let l : 2 ^ 64 ≤ numerator m (k + 1) = large_says (sym e ∙ d) in
       let i = subst (λ x. Memᴰ x (from 1 8)) o (from_in 1 8 k (omega (arith, g.chains_range))) in
-      record {
-        large_is = sym (some_of too_large (Memᴰ.map (numerator m) i) (le-leb (2 ^ 64) (numerator m (k + 1)) l));
-        numbers_are = λ f. absurd (true≢false f);
-      }
+      rw (some_of too_large (Memᴰ.map (numerator m) i) (le-leb (2 ^ 64) (numerator m (k + 1)) l)) refl
 
-  pub lowerings_last : {old new numbers : List ℕ} {k : ℕ} → Lowerings m old new numbers k → m.chains ≤ k → Numbered m (record { numbers = numbers; large = false })
-  unfolding numerators from
+  pub lowerings_last : {old new numbers : List ℕ} {k : ℕ} → Lowerings m old new numbers k → m.chains ≤ k → Some numbers ≡ numerators_of m
+  unfolding numerators numerators_of from
   lowerings_last {numbers = numbers} {k = k} w h =
-      record {
-        large_is = sym (not_some too_large (map (numerator m) (from 1 8)) (λ a i. each a (Memᴰ.of_map (numerator m) (from 1 8) i)));
-        numbers_are = λ f. rowed_last (at m) m.chains w.filled h ∙ row_whole (at m) m.chains g.chains_range.1 at_past;
-      }
+      rw (not_some too_large (map (numerator m) (from 1 8)) (λ a i. each a (Memᴰ.of_map (numerator m) (from 1 8) i)))
+      (ap Some (rowed_last (at m) m.chains w.filled h ∙ row_whole (at m) m.chains g.chains_range.1 at_past))
     where
       low : (i : ℕ) → numerator m (i + 1) < 2 ^ 64
       low i = by (ltb i m.chains) refl

@@ -8,64 +8,35 @@ ghost use Rattle.arith.specs.Capped.{capped};
 ghost use Rattle.binomials.specs.Rows.{rows as rows_of};
 ghost use Rattle.calls.specs.Asked.{cells_in};
 ghost use Rattle.calls.specs.Sheet.{numerator};
-ghost use Rattle.rates.specs.Steps.{Kept, Numbered};
+ghost use Rattle.rates.specs.Steps.{Kept, numerators_of};
 
 use modelfile::Model;
-use plan::Asked;
-use plan::windows::lowered;
+use plan::asking::run_of;
 use runs::whole::whole_value;
 
-// A numerator for each chain, if none is too large.
-#[derive(Clone, Copy)]
-pub struct AllNumerators {
-    pub numbers: [u64; 8],
-    pub large: bool,
-}
-
 // "A chain with window 0 has numerator 0 and isn't run."
-fn numerator(rows: &[u64], m: Model, chain: u64, area: &mut [u64]) -> Option<u64>
+fn numerator(rows: &[u64], m: &Model, chain: u64, area: &mut [u64]) -> Option<u64>
     requires rows_are { rows.now ≡ rows_of }
-    requires guaranteed { Guaranteed m × (1 ≤ chain) × (cells_in m (windows_of m) ≤ length area.old) }
-    ensures value { result ≡ capped (numerator m chain) }
-    ensures kept { Kept (cells_in m (windows_of m)) area.old area.new }
+    requires guaranteed { Guaranteed m.now × (1 ≤ chain) × (cells_in m.now (windows_of m.now) ≤ length area.old) }
+    ensures value { result ≡ capped (numerator m.now chain) }
+    ensures kept { Kept (cells_in m.now (windows_of m.now)) area.old area.new }
 {
-    let l = lowered(m, chain);
-    let asked = l.asked;
-    let windows = l.windows;
-    match asked {
-        Asked::Refused {
-            number: _,
-            place: _,
-        } => Some(0),
-        Asked::Granted => whole_value(rows, m, windows, area),
+    match run_of(*m, chain) {
+        Ok(run) => whole_value(rows, &run, area),
+        Err(_) => Some(0),
     }
 }
 
-// Up to the first that is too large.
-pub fn numerators(rows: &[u64], m: Model, area: &mut [u64]) -> AllNumerators
+// A numerator for each chain, if none is too large.
+pub fn numerators(rows: &[u64], m: &Model, area: &mut [u64]) -> Option<[u64; 8]>
     requires rows_are { rows.now ≡ rows_of }
-    requires guaranteed { Guaranteed m × (cells_in m (windows_of m) ≤ length area.old) }
-    ensures numbered { Numbered m result }
-    ensures kept { Kept (cells_in m (windows_of m)) area.old area.new }
+    requires guaranteed { Guaranteed m.now × (cells_in m.now (windows_of m.now) ≤ length area.old) }
+    ensures numbers { result ≡ numerators_of m.now }
+    ensures kept { Kept (cells_in m.now (windows_of m.now)) area.old area.new }
 {
     let mut numbers = [0u64; 8];
-    let mut k: usize = 0;
-    while k < m.chains {
-        match numerator(rows, m, k as u64 + 1, area) {
-            Some(n) => {
-                numbers[k] = n;
-                k += 1;
-            }
-            None => {
-                return AllNumerators {
-                    numbers,
-                    large: true,
-                };
-            }
-        }
+    for k in 0..m.chains {
+        numbers[k] = numerator(rows, m, k as u64 + 1, area)?;
     }
-    AllNumerators {
-        numbers,
-        large: false,
-    }
+    Some(numbers)
 }

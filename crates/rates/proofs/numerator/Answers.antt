@@ -6,10 +6,17 @@ use Rattle.rates.proofs.LoweredLaws.{kept_same, kept_more, not_run, run_cells, r
 use Rattle.rates.proofs.numerator.Goals as goal
 
 pub whole_value-requires : goal.whole_value-requires
-whole_value-requires c = record { rows_are = c.requires.rows_are; guaranteed = (c.requires.guaranteed.0, c.lowered-l.ensures.long, c.lowered-l.ensures.small); room = omega (arith, c.requires.guaranteed.2, run_cells _ c.requires.guaranteed.0 _ _ c.lowered-l.ensures c.in-Granted.is) }
+whole_value-requires c =
+    let g = c.requires.guaranteed in
+    record { rows_are = c.requires.rows_are; ready = c.in-Ok.ensures.ready; room = omega (arith, g.2, run_cells _ g.0 _ c.in-Ok.ensures) }
 
-pub returns-in-Refused : goal.returns-in-Refused
-returns-in-Refused c = record { value = not_run _ c.requires.guaranteed.0 _ _ c.lowered-l.ensures c.requires.guaranteed.1 c.in-Refused.is; kept = kept_same _ _ }
+pub returns-in-Err : goal.returns-in-Err
+returns-in-Err c = record { value = not_run _ c.requires.guaranteed.0 _ c.in-Err.ensures c.requires.guaranteed.1; kept = kept_same _ _ }
 
-pub returns-in-Granted : goal.returns-in-Granted
-returns-in-Granted c = record { value = c.whole_value.ensures.value ∙ ap capped (run_value _ c.requires.guaranteed.0 _ _ c.lowered-l.ensures c.in-Granted.is); kept = kept_more _ _ _ _ (run_cells _ c.requires.guaranteed.0 _ _ c.lowered-l.ensures c.in-Granted.is) c.whole_value.ensures.rest_kept }
+pub returns-in-Ok : goal.returns-in-Ok
+returns-in-Ok c =
+    let g = c.requires.guaranteed.0 in
+    record {
+      value = c.whole_value.ensures.value ∙ ap capped (run_value _ g _ c.in-Ok.ensures);
+      kept = kept_more _ _ _ _ (run_cells _ g _ c.in-Ok.ensures) (c.whole_value.ensures.long, c.whole_value.ensures.past);
+    }

@@ -1,11 +1,7 @@
 -- `numerators` meets its contract. The loop's invariant: the numerators of the first k chains stand in their places, each below 2^64
 -- (`Lowerings`).
-use Prim.Native.Nat.{◌-◌}
 use Rattle.rates.proofs.NumberedLaws.{Lowerings}
 use Rattle.rates.proofs.numerators.Given as goal
 
 abbrev pub invariant-loop-k : goal.invariant-loop-k
 invariant-loop-k l = Lowerings l.m l.initial.area l.area l.numbers l.k
-
-abbrev pub decreases-loop-k : goal.decreases-loop-k
-decreases-loop-k l = l.m.chains - l.k

@@ -1,14 +1,14 @@
--- `sheet` meets its contract: an accepted file guarantees what the runs ask.
+-- `sheet` meets its contract: refused as asked, or as the prepared run goes.
 use mathlib.Core.Path.{◌∙◌}
-use Rattle.plan.proofs.PlanLaws.{file_guaranteed}
-use Rattle.ratesheet.proofs.SheetLaws.{file_refused, file_read}
+use Rattle.sums.proofs.HandedLaws.{handed_on}
+use Rattle.ratesheet.proofs.SheetLaws.{file_refused, file_full, file_read}
 use Rattle.ratesheet.proofs.sheet.Goals as goal
 
+pub returns-in_err-run : goal.returns-in_err-run
+returns-in_err-run c = let e = file_refused c.args.file.now c.args.area.now c.in_err-run.ensures in (handed_on _ c.from_residual.ensures.1 ∙ e.0, e.1)
+
 pub run_and_clear-requires : goal.run_and_clear-requires
-run_and_clear-requires c = file_guaranteed _ 0 _ c.read_file-reading.ensures c.in-Accepted.is
+run_and_clear-requires c = record { full = file_full c.args.file.now c.args.area.now c.in_ok-run.ensures }
 
-pub returns-in-Accepted : goal.returns-in-Accepted
-returns-in-Accepted c = let e = file_read _ _ _ c.read_file-reading.ensures c.in-Accepted.is in (c.run_and_clear.ensures.answer ∙ e.0, c.run_and_clear.ensures.left ∙ e.1)
-
-pub returns-in-Refused : goal.returns-in-Refused
-returns-in-Refused c = let e = file_refused _ _ _ c.read_file-reading.ensures c.in-Refused.is in (c.no_sheet.ensures ∙ e.0, e.1)
+pub returns : goal.returns
+returns c = let e = file_read c.args.file.now c.args.area.now c.in_ok-run.ensures in (c.run_and_clear.ensures.answer ∙ e.0, c.run_and_clear.ensures.left ∙ e.1)
