@@ -3,7 +3,6 @@ ghost use Rattle.std.specs.Prelude.{◌≡◌, false, ◌+◌, ◌≤◌, length
 ghost use Rattle.sums.specs.Lists.{some};
 ghost use Rattle.network.specs.Cells.{span};
 ghost use Rattle.calls.specs.Start.{too_large};
-ghost use Rattle.binomials.specs.Rows.{rows as rows_of};
 ghost use Rattle.weights.specs.Leaf.{lowest, highest};
 ghost use Rattle.plan.specs.Steps.{covering, Few};
 ghost use Rattle.fills.specs.Nodes.{ends_by, leaf_cells, put, LeafIn};
@@ -55,8 +54,8 @@ fn ends_of(ch: Chains, counts: [usize; 8]) -> Ends
     Ends { lows, highs }
 }
 
-pub fn leaf_too_large(rows: &[u64], loads: &[u64], ch: Chains, n: Node) -> bool
-    requires { (rows.now ≡ rows_of) × LeafIn loads.now ch n }
+pub fn leaf_too_large(loads: &[u64], ch: Chains, n: Node) -> bool
+    requires { LeafIn loads.now ch n }
     ensures { result ≡ some too_large (leaf_cells loads.now ch n) }
 {
     let counts = n.counts;
@@ -66,11 +65,11 @@ pub fn leaf_too_large(rows: &[u64], loads: &[u64], ch: Chains, n: Node) -> bool
     let k = ch.count;
     let a = (n.centre - 1) * 8;
     let b = a + k;
-    weights::some_too_large(rows, &loads[a..b], &lows[..k], &highs[..k])
+    weights::some_too_large(&loads[a..b], &lows[..k], &highs[..k])
 }
 
-pub fn write_leaf(rows: &[u64], loads: &[u64], ch: Chains, n: Node, area: &mut [u64])
-    requires rows_are { (rows.now ≡ rows_of) × LeafIn loads.now ch n }
+pub fn write_leaf(loads: &[u64], ch: Chains, n: Node, area: &mut [u64])
+    requires leaf { LeafIn loads.now ch n }
     requires room { n.base + n.cells ≤ length area.old }
     requires none_large { some too_large (leaf_cells loads.now ch n) ≡ false }
     ensures { area.new ≡ put n.base (leaf_cells loads.now ch n) area.old }
@@ -85,7 +84,6 @@ pub fn write_leaf(rows: &[u64], loads: &[u64], ch: Chains, n: Node, area: &mut [
     let from = n.base;
     let to = from + n.cells;
     weights::write_cells(
-        rows,
         &loads[a..b],
         &lows[..k],
         &highs[..k],

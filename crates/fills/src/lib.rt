@@ -8,7 +8,6 @@ ghost use Rattle.std.specs.Prelude.{◌≡◌, false, ◌++◌, ◌+◌, ◌≤�
 ghost use Rattle.sums.specs.Lists.{some};
 ghost use Rattle.calls.specs.Asked.{cells_in, filled_by};
 ghost use Rattle.calls.specs.Start.{too_large};
-ghost use Rattle.binomials.specs.Rows.{rows as rows_of};
 ghost use Rattle.plan.specs.Table.{windows_in};
 ghost use Rattle.plan.specs.Asking.{Prepared};
 ghost use Rattle.fills.specs.Nodes.{node_cells, put, NodeIn};
@@ -27,18 +26,18 @@ pub fn clear(part: &mut [u64])
     }
 }
 
-fn node_too_large(rows: &[u64], loads: &[u64], ch: Chains, n: Node) -> bool
-    requires { (rows.now ≡ rows_of) × NodeIn loads.now ch n }
+fn node_too_large(loads: &[u64], ch: Chains, n: Node) -> bool
+    requires { NodeIn loads.now ch n }
     ensures { result ≡ some too_large (node_cells loads.now ch n) }
 {
     if n.centre == 0 {
         return false;
     }
-    leaf_too_large(rows, loads, ch, n)
+    leaf_too_large(loads, ch, n)
 }
 
-fn write_node(rows: &[u64], loads: &[u64], ch: Chains, n: Node, area: &mut [u64])
-    requires rows_are { (rows.now ≡ rows_of) × NodeIn loads.now ch n }
+fn write_node(loads: &[u64], ch: Chains, n: Node, area: &mut [u64])
+    requires node { NodeIn loads.now ch n }
     requires room { n.base + n.cells ≤ length area.old }
     requires none_large { some too_large (node_cells loads.now ch n) ≡ false }
     ensures { area.new ≡ put n.base (node_cells loads.now ch n) area.old }
@@ -49,11 +48,11 @@ fn write_node(rows: &[u64], loads: &[u64], ch: Chains, n: Node, area: &mut [u64]
         clear(&mut area[from..to]);
         return;
     }
-    write_leaf(rows, loads, ch, n, area);
+    write_leaf(loads, ch, n, area);
 }
 
-pub fn some_leaf_too_large(rows: &[u64], m: Model, windows: [usize; 8], t: Table) -> bool
-    requires { (rows.now ≡ rows_of) × Prepared m windows t }
+pub fn some_leaf_too_large(m: Model, windows: [usize; 8], t: Table) -> bool
+    requires { Prepared m windows t }
     ensures { result ≡ some too_large (filled_by m (windows_in m windows)) }
 {
     let loads = m.loads;
@@ -66,7 +65,7 @@ pub fn some_leaf_too_large(rows: &[u64], m: Model, windows: [usize; 8], t: Table
     };
     let mut i = 0;
     while i < t.count {
-        if node_too_large(rows, &loads, ch, nodes[i]) {
+        if node_too_large(&loads, ch, nodes[i]) {
             return true;
         }
         i += 1;
@@ -75,8 +74,8 @@ pub fn some_leaf_too_large(rows: &[u64], m: Model, windows: [usize; 8], t: Table
 }
 
 // The cells past the model's stay as they are.
-pub fn fill(rows: &[u64], m: Model, windows: [usize; 8], t: Table, area: &mut [u64])
-    requires rows_are { (rows.now ≡ rows_of) × Prepared m windows t }
+pub fn fill(m: Model, windows: [usize; 8], t: Table, area: &mut [u64])
+    requires prepared { Prepared m windows t }
     requires room { cells_in m (windows_in m windows) ≤ length area.old }
     requires none_large { some too_large (filled_by m (windows_in m windows)) ≡ false }
     ensures { area.new ≡ filled_by m (windows_in m windows) ++ drop (cells_in m (windows_in m windows)) area.old }
@@ -91,7 +90,7 @@ pub fn fill(rows: &[u64], m: Model, windows: [usize; 8], t: Table, area: &mut [u
     };
     let mut next = 0;
     while next < t.count {
-        write_node(rows, &loads, ch, nodes[next], area);
+        write_node(&loads, ch, nodes[next], area);
         next += 1;
     }
 }

@@ -5,7 +5,6 @@ ghost use Rattle.std.specs.Prelude.{◌≡◌, ◌≤◌, length};
 ghost use Rattle.modelfile.specs.Network.{windows_of};
 ghost use Rattle.modelfile.proofs.Guaranteed.{Guaranteed};
 ghost use Rattle.arith.specs.Capped.{capped};
-ghost use Rattle.binomials.specs.Rows.{rows as rows_of};
 ghost use Rattle.calls.specs.Asked.{cells_in};
 ghost use Rattle.calls.specs.Sheet.{numerator};
 ghost use Rattle.rates.specs.Steps.{Kept, Numbered};
@@ -23,8 +22,7 @@ pub struct AllNumerators {
 }
 
 // "A chain with window 0 has numerator 0 and isn't run."
-fn numerator(rows: &[u64], m: Model, chain: u64, area: &mut [u64]) -> Option<u64>
-    requires rows_are { rows.now ≡ rows_of }
+fn numerator(m: Model, chain: u64, area: &mut [u64]) -> Option<u64>
     requires guaranteed { Guaranteed m × (1 ≤ chain) × (cells_in m (windows_of m) ≤ length area.old) }
     ensures value { result ≡ capped (numerator m chain) }
     ensures kept { Kept (cells_in m (windows_of m)) area.old area.new }
@@ -37,13 +35,12 @@ fn numerator(rows: &[u64], m: Model, chain: u64, area: &mut [u64]) -> Option<u64
             number: _,
             place: _,
         } => Some(0),
-        Asked::Granted => whole_value(rows, m, windows, area),
+        Asked::Granted => whole_value(m, windows, area),
     }
 }
 
 // Up to the first that is too large.
-pub fn numerators(rows: &[u64], m: Model, area: &mut [u64]) -> AllNumerators
-    requires rows_are { rows.now ≡ rows_of }
+pub fn numerators(m: Model, area: &mut [u64]) -> AllNumerators
     requires guaranteed { Guaranteed m × (cells_in m (windows_of m) ≤ length area.old) }
     ensures numbered { Numbered m result }
     ensures kept { Kept (cells_in m (windows_of m)) area.old area.new }
@@ -51,7 +48,7 @@ pub fn numerators(rows: &[u64], m: Model, area: &mut [u64]) -> AllNumerators
     let mut numbers = [0u64; 8];
     let mut k: usize = 0;
     while k < m.chains {
-        match numerator(rows, m, k as u64 + 1, area) {
+        match numerator(m, k as u64 + 1, area) {
             Some(n) => {
                 numbers[k] = n;
                 k += 1;

@@ -36,10 +36,9 @@ fn run(m: Model, cells: u64, pairs: u64, area: &mut [u64]) -> SheetAnswer
     ensures kept { Kept (cells_in m (windows_of m)) area.old area.new }
 {
     let windows = m.windows;
-    let rows = binomials::rows();
-    match whole_value(&rows, m, windows, area) {
+    match whole_value(m, windows, area) {
         Some(value) => {
-            let n = numerators(&rows, m, area);
+            let n = numerators(m, area);
             let full = Full {
                 value,
                 pairs,

@@ -45,14 +45,13 @@ fn start_in(m: Model, windows: [usize; 8], t: Table, area: &mut [u64]) -> StartA
             place: 0,
         };
     }
-    let rows = binomials::rows();
-    if some_leaf_too_large(&rows, m, windows, t) {
+    if some_leaf_too_large(m, windows, t) {
         return StartAnswer::Refused {
             number: 14,
             place: 0,
         };
     }
-    fill(&rows, m, windows, t, area);
+    fill(m, windows, t, area);
     StartAnswer::Started
 }
 

@@ -5,7 +5,6 @@ ghost use Rattle.modelfile.specs.Network.{centres_of};
 ghost use Rattle.modelfile.proofs.Guaranteed.{Guaranteed};
 ghost use Rattle.calls.specs.Asked.{cells_in};
 ghost use Rattle.arith.specs.Capped.{capped};
-ghost use Rattle.binomials.specs.Rows.{rows as rows_of};
 
 use crate::last_cell;
 use fills::{fill, some_leaf_too_large};
@@ -15,18 +14,17 @@ use plan::tables::make_table;
 use spends::spend;
 
 // The cells past the model's stay as they are.
-pub fn whole_value(rows: &[u64], m: Model, windows: [usize; 8], area: &mut [u64]) -> Option<u64>
-    requires rows_are { rows.now ≡ rows_of }
+pub fn whole_value(m: Model, windows: [usize; 8], area: &mut [u64]) -> Option<u64>
     requires guaranteed { Guaranteed m × (length windows ≡ 8) × ((k : ℕ) → get_or windows k 0 ≤ 15) }
     requires room { cells_in m (take m.chains windows) ≤ length area.old }
     ensures value { result ≡ capped (value (centres_of m) (take m.chains windows)) }
     ensures rest_kept { (length area.new ≡ length area.old) × (drop (cells_in m (take m.chains windows)) area.new ≡ drop (cells_in m (take m.chains windows)) area.old) }
 {
     let t = make_table(m, windows);
-    if some_leaf_too_large(rows, m, windows, t) {
+    if some_leaf_too_large(m, windows, t) {
         return None;
     }
-    fill(rows, m, windows, t, area);
+    fill(m, windows, t, area);
     let all = Quota {
         skip: 0,
         budget: t.pairs as usize,

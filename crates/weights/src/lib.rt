@@ -4,7 +4,6 @@
 ghost use Rattle.std.specs.Prelude.{◌≡◌, true, false, map, ◌++◌, ◌+◌, ◌*◌, ◌^◌, ◌≤◌, ◌<◌, leb, length, take, drop};
 ghost use Rattle.sums.specs.Lists.{some};
 ghost use Rattle.arith.specs.Capped.{capped};
-ghost use Rattle.binomials.specs.Rows.{rows as rows_of};
 ghost use Rattle.network.specs.Weight.{binomial as binomial_of, weight};
 ghost use Rattle.network.specs.Centre.{visit, fits};
 ghost use Rattle.weights.specs.Ranges.{AtMost};
@@ -33,19 +32,17 @@ fn times_power(acc: u64, load: u64, n: usize) -> Option<u64>
 
 // One chain's part of a weight: n messages, where those of the chains before are there already. The binomial comes last: it is at
 // least 1, so a power that is too large settles it.
-fn times_chain(rows: &[u64], acc: u64, load: u64, before: usize, n: usize) -> Option<u64>
-    requires rows_are { rows.now ≡ rows_of }
-    requires in_table { (before + n ≤ 120) × (n ≤ 15) }
+fn times_chain(acc: u64, load: u64, before: usize, n: usize) -> Option<u64>
+    requires { (before + n ≤ 120) × (n ≤ 15) }
     ensures { result ≡ capped (acc * load ^ n * binomial_of (before + n) n) }
 {
     match times_power(acc, load, n) {
-        Some(x) => arith::mul(x, binomials::binomial_in(rows, before + n, n)),
+        Some(x) => arith::mul(x, binomials::binomial(before + n, n)),
         None => None,
     }
 }
 
-pub fn weight_of(rows: &[u64], loads: &[u64], index: &[usize]) -> Option<u64>
-    requires rows_are { rows.now ≡ rows_of }
+pub fn weight_of(loads: &[u64], index: &[usize]) -> Option<u64>
     requires few_chains { (length loads.now ≤ 8) × AtMost 15 index.now }
     requires on_route { fits (map visit loads.now) index.now ≡ true }
     ensures { result ≡ capped (weight loads.now index.now) }
@@ -55,7 +52,7 @@ pub fn weight_of(rows: &[u64], loads: &[u64], index: &[usize]) -> Option<u64>
     let mut k: usize = 0;
     while k < loads.len() {
         let n = index[k];
-        match times_chain(rows, acc, loads[k], before, n) {
+        match times_chain(acc, loads[k], before, n) {
             Some(x) => {
                 acc = x;
             }
@@ -70,12 +67,11 @@ pub fn weight_of(rows: &[u64], loads: &[u64], index: &[usize]) -> Option<u64>
 }
 
 // Whether some cell of a leaf is too large. No index has a larger weight than the highest.
-pub fn some_too_large(rows: &[u64], loads: &[u64], lows: &[usize], highs: &[usize]) -> bool
-    requires rows_are { rows.now ≡ rows_of }
-    requires leaf_ends { LeafEnds loads.now lows.now highs.now }
+pub fn some_too_large(loads: &[u64], lows: &[usize], highs: &[usize]) -> bool
+    requires { LeafEnds loads.now lows.now highs.now }
     ensures { result ≡ some (λ n. leb (2 ^ 64) n) (map (weight loads.now) (between lows.now highs.now)) }
 {
-    match weight_of(rows, loads, highs) {
+    match weight_of(loads, highs) {
         Some(_) => false,
         None => true,
     }
@@ -93,7 +89,6 @@ fn exact_power(acc: u64, load: u64, n: usize) -> u64
 
 // The cells of the last chain: the loop of `fill` with a store where that has a call.
 fn fill_last(
-    rows: &[u64],
     loads: &[u64],
     lows: &[usize],
     highs: &[usize],
@@ -103,7 +98,7 @@ fn fill_last(
     out: &mut [u64],
     at: usize,
 ) -> usize
-    requires rows_are { (rows.now ≡ rows_of) × (k + 1 ≡ length loads.now) }
+    requires last_chain { k + 1 ≡ length loads.now }
     requires to_fill { ToFill loads.now lows.now highs.now k acc before at (length out.old) }
     ensures next_place { result ≡ at + length (between (drop k lows.now) (drop k highs.now)) }
     ensures written { take result out.new ≡ take at out.old ++ cells_from acc before (drop k loads.now) (drop k lows.now) (drop k highs.now) }
@@ -114,7 +109,7 @@ fn fill_last(
     let mut power = exact_power(acc, load, i);
     let mut next = at;
     loop {
-        let ways = binomials::binomial_in(rows, before + i, i);
+        let ways = binomials::binomial(before + i, i);
         out[next] = power * ways;
         next += 1;
         if i == high {
@@ -128,7 +123,6 @@ fn fill_last(
 // The cells of chain k and of those after it, from `at` on, where the chains before make `acc` and have `before` messages. Returns the
 // place after them. Nothing is too large, so the products need no test.
 fn fill(
-    rows: &[u64],
     loads: &[u64],
     lows: &[usize],
     highs: &[usize],
@@ -138,13 +132,13 @@ fn fill(
     out: &mut [u64],
     at: usize,
 ) -> usize
-    requires rows_are { (rows.now ≡ rows_of) × (k < length loads.now) }
+    requires a_chain { k < length loads.now }
     requires to_fill { ToFill loads.now lows.now highs.now k acc before at (length out.old) }
     ensures next_place { result ≡ at + length (between (drop k lows.now) (drop k highs.now)) }
     ensures written { take result out.new ≡ take at out.old ++ cells_from acc before (drop k loads.now) (drop k lows.now) (drop k highs.now) }
 {
     if k + 1 == loads.len() {
-        return fill_last(rows, loads, lows, highs, k, acc, before, out, at);
+        return fill_last(loads, lows, highs, k, acc, before, out, at);
     }
     let load = loads[k];
     let high = highs[k];
@@ -152,9 +146,8 @@ fn fill(
     let mut power = exact_power(acc, load, i);
     let mut next = at;
     loop {
-        let ways = binomials::binomial_in(rows, before + i, i);
+        let ways = binomials::binomial(before + i, i);
         next = fill(
-            rows,
             loads,
             lows,
             highs,
@@ -214,8 +207,7 @@ fn those_present(loads: &[u64], lows: &[usize], highs: &[usize]) -> Present
 }
 
 // A chain that stands at 0 changes no weight, so only those present are walked through.
-pub fn write_cells(rows: &[u64], loads: &[u64], lows: &[usize], highs: &[usize], out: &mut [u64])
-    requires rows_are { rows.now ≡ rows_of }
+pub fn write_cells(loads: &[u64], lows: &[usize], highs: &[usize], out: &mut [u64])
     requires leaf_ends { LeafEnds loads.now lows.now highs.now }
     requires room { length out.old ≡ length (between lows.now highs.now) }
     requires none_large { some (λ n. leb (2 ^ 64) n) (map (weight loads.now) (between lows.now highs.now)) ≡ false }
@@ -231,7 +223,6 @@ pub fn write_cells(rows: &[u64], loads: &[u64], lows: &[usize], highs: &[usize],
     let kept_lows = present.lows;
     let kept_highs = present.highs;
     fill(
-        rows,
         &kept_loads[..n],
         &kept_lows[..n],
         &kept_highs[..n],

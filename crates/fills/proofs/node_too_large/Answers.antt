@@ -9,7 +9,7 @@ pub returns-then-n-eq0 : goal.returns-then-n-eq0
 returns-then-n-eq0 c = join_low _ _ _ c.if-n-eq0.true
 
 pub leaf_too_large-requires : goal.leaf_too_large-requires
-leaf_too_large-requires c = (c.requires.0, c.requires.1 c.if-n-eq0.false)
+leaf_too_large-requires c = c.requires c.if-n-eq0.false
 
 pub returns : goal.returns
 returns c = c.leaf_too_large.ensures ∙ ap (some too_large) (sym (leaf_cells_lem _ _ _ c.if-n-eq0.false))

@@ -9,23 +9,23 @@ pub loop-i-init : goal.loop-i-init
 loop-i-init c = passed_first _ _ _
 
 pub slice_bounds-node_too_large-end : goal.slice_bounds-node_too_large-end
-slice_bounds-node_too_large-end c = sym c.requires.1.guaranteed.loads_long
+slice_bounds-node_too_large-end c = sym c.requires.guaranteed.loads_long
 
 pub bounds-nodes-i : goal.bounds-nodes-i
 bounds-nodes-i c =
-    omega (arith, inside _ c.args.windows _ c.requires.1 c.loop-i-test.true, c.requires.1.tabled.nodes_long)
+    omega (arith, inside _ c.args.windows _ c.requires c.loop-i-test.true, c.requires.tabled.nodes_long)
 
 pub node_too_large-requires : goal.node_too_large-requires
 node_too_large-requires c =
-    (c.requires.0, node_ready _ c.args.windows _ c.requires.1 _ c.loop-i-test.true)
+    node_ready _ c.args.windows _ c.requires _ c.loop-i-test.true
 
 pub returns-then-node_too_large : goal.returns-then-node_too_large
 returns-then-node_too_large c =
-    passed_found _ c.args.windows _ c.requires.1 c.loop-i-test.true c.node_too_large.ensures c.if-node_too_large.true
+    passed_found _ c.args.windows _ c.requires c.loop-i-test.true c.node_too_large.ensures c.if-node_too_large.true
 
 pub loop-i-preserved : goal.loop-i-preserved
 loop-i-preserved c =
-    passed_turn _ c.args.windows _ c.requires.1 c.loop-i-test.true c.loop-i.invariant c.node_too_large.ensures c.if-node_too_large.false
+    passed_turn _ c.args.windows _ c.requires c.loop-i-test.true c.loop-i.invariant c.node_too_large.ensures c.if-node_too_large.false
 
 pub returns : goal.returns
-returns c = passed_last _ c.args.windows _ c.requires.1 c.loop-i.invariant c.loop-i-test.false
+returns c = passed_last _ c.args.windows _ c.requires c.loop-i.invariant c.loop-i-test.false

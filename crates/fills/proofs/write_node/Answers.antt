@@ -12,7 +12,7 @@ returns-then-n-eq0 c =
     join_put _ c.args.ch c.args.n c.args.area.now c.if-n-eq0.true c.clear.ensures (part_room _ _ _ c.requires.room)
 
 pub write_leaf-requires : goal.write_leaf-requires
-write_leaf-requires c = record { rows_are = (c.requires.rows_are.0, c.requires.rows_are.1 c.if-n-eq0.false); room = c.requires.room; none_large = ap (some too_large) (sym (leaf_cells_lem _ _ _ c.if-n-eq0.false)) ∙ c.requires.none_large }
+write_leaf-requires c = record { leaf = c.requires.node c.if-n-eq0.false; room = c.requires.room; none_large = ap (some too_large) (sym (leaf_cells_lem _ _ _ c.if-n-eq0.false)) ∙ c.requires.none_large }
 
 pub returns : goal.returns
 returns c =

@@ -6,7 +6,7 @@ use Rattle.rates.proofs.LoweredLaws.{kept_same, kept_more, not_run, run_cells, r
 use Rattle.rates.proofs.numerator.Goals as goal
 
 pub whole_value-requires : goal.whole_value-requires
-whole_value-requires c = record { rows_are = c.requires.rows_are; guaranteed = (c.requires.guaranteed.0, c.lowered-l.ensures.long, c.lowered-l.ensures.small); room = omega (arith, c.requires.guaranteed.2, run_cells _ c.requires.guaranteed.0 _ _ c.lowered-l.ensures c.in-Granted.is) }
+whole_value-requires c = record { guaranteed = (c.requires.guaranteed.0, c.lowered-l.ensures.long, c.lowered-l.ensures.small); room = omega (arith, c.requires.guaranteed.2, run_cells _ c.requires.guaranteed.0 _ _ c.lowered-l.ensures c.in-Granted.is) }
 
 pub returns-in-Refused : goal.returns-in-Refused
 returns-in-Refused c = record { value = not_run _ c.requires.guaranteed.0 _ _ c.lowered-l.ensures c.requires.guaranteed.1 c.in-Refused.is; kept = kept_same _ _ }

@@ -7,7 +7,7 @@ use Rattle.ratesheet.proofs.run.Goals as goal
 
 pub whole_value-requires : goal.whole_value-requires
 unfolding windows_of
-whole_value-requires c = record { rows_are = c.rows-rows.ensures; guaranteed = (c.requires.guaranteed.0, c.requires.guaranteed.0.windows_long, c.requires.guaranteed.0.window_range); room = c.requires.guaranteed.1 }
+whole_value-requires c = record { guaranteed = (c.requires.guaranteed.0, c.requires.guaranteed.0.windows_long, c.requires.guaranteed.0.window_range); room = c.requires.guaranteed.1 }
 
 pub answer-requires : goal.answer-requires
 unfolding windows_of

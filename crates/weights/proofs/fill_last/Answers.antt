@@ -28,49 +28,49 @@ overflow_add-before c =
     let f = c.loop-i.invariant in
     omega (arith, sum_small to refl f)
 
-pub binomial_in-ways-requires : goal.binomial_in-ways-requires
-binomial_in-ways-requires c =
+pub binomial-ways-requires : goal.binomial-ways-requires
+binomial-ways-requires c =
     let to = c.requires.to_fill in
     let f = c.loop-i.invariant in
-    record { rows_are = c.requires.rows_are.0; in_table = (sum_small to refl f, index_small to refl f) }
+    (sum_small to refl f, index_small to refl f)
 
 pub overflow_mul-out : goal.overflow_mul-out
 overflow_mul-out c =
     let to = c.requires.to_fill in
     let f = c.loop-i.invariant in
-    let ways = c.binomial_in-ways.ensures in
+    let ways = c.binomial-ways.ensures in
     record { fits = product_low to refl f _ ways }
 
 pub offset_bounds-out-next : goal.offset_bounds-out-next
 offset_bounds-out-next c =
     let to = c.requires.to_fill in
     let f = c.loop-i.invariant in
-    let ways = c.binomial_in-ways.ensures in
-    let last = c.requires.rows_are.1 in
+    let ways = c.binomial-ways.ensures in
+    let last = c.requires.last_chain in
     omega (arith, cell_inside to refl f _ ways last)
 
 pub bounds-out-next : goal.bounds-out-next
 bounds-out-next c =
     let to = c.requires.to_fill in
     let f = c.loop-i.invariant in
-    let ways = c.binomial_in-ways.ensures in
-    let last = c.requires.rows_are.1 in
+    let ways = c.binomial-ways.ensures in
+    let last = c.requires.last_chain in
     cell_inside to refl f _ ways last
 
 pub overflow_add-next : goal.overflow_add-next
 overflow_add-next c =
     let to = c.requires.to_fill in
     let f = c.loop-i.invariant in
-    let ways = c.binomial_in-ways.ensures in
-    let last = c.requires.rows_are.1 in
+    let ways = c.binomial-ways.ensures in
+    let last = c.requires.last_chain in
     omega (arith, cell_inside to refl f _ ways last)
 
 pub returns-then-i-high : goal.returns-then-i-high
 returns-then-i-high c =
     let to = c.requires.to_fill in
     let f = c.loop-i.invariant in
-    let ways = c.binomial_in-ways.ensures in
-    let last = c.requires.rows_are.1 in
+    let ways = c.binomial-ways.ensures in
+    let last = c.requires.last_chain in
     let both = last_filled to refl f _ ways last c.if-i-high.true in record { next_place = both.0; written = both.1 }
 
 pub overflow_mul-power : goal.overflow_mul-power
@@ -92,6 +92,6 @@ pub loop-i-preserved : goal.loop-i-preserved
 loop-i-preserved c =
     let to = c.requires.to_fill in
     let f = c.loop-i.invariant in
-    let ways = c.binomial_in-ways.ensures in
-    let last = c.requires.rows_are.1 in
+    let ways = c.binomial-ways.ensures in
+    let last = c.requires.last_chain in
     last_more to refl f _ ways last (omega (arith, f.index))

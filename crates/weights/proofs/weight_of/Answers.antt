@@ -13,7 +13,7 @@ pub bounds-index-k : goal.bounds-index-k
 bounds-index-k c = omega (arith, fits-length c.args.loads.now c.args.index.now c.requires.on_route)
 
 pub times_chain-requires : goal.times_chain-requires
-times_chain-requires c = record { rows_are = c.requires.rows_are; in_table = (omega (arith, c.requires.few_chains.1 c.loop-k.k), c.requires.few_chains.1 c.loop-k.k) }
+times_chain-requires c = (omega (arith, c.requires.few_chains.1 c.loop-k.k), c.requires.few_chains.1 c.loop-k.k)
 
 pub returns-in-None : goal.returns-in-None
 returns-in-None c = sym (part_large _ _ c.requires.on_route c.loop-k.acc c.loop-k.before c.loop-k.k c.loop-k.invariant.3 (search rules) (sym c.times_chain.ensures ∙ c.in-None.is))

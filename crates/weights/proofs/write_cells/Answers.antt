@@ -25,7 +25,7 @@ slice_bounds-fill-end-3 c = taken_count c.those_present-present.ensures.highs_ta
 pub fill-requires : goal.fill-requires
 fill-requires c =
     let kept = c.those_present-present.ensures in
-    record { rows_are = (c.requires.rows_are, omega (arith, taken_count kept.loads_taken, c.if-n-eq0.false)); to_fill = kept_to_fill c.requires.leaf_ends kept _ c.requires.room c.requires.none_large }
+    record { a_chain = omega (arith, taken_count kept.loads_taken, c.if-n-eq0.false); to_fill = kept_to_fill c.requires.leaf_ends kept _ c.requires.room c.requires.none_large }
 
 pub returns : goal.returns
 returns c =

@@ -8,13 +8,13 @@ pub make_table-t-requires : goal.make_table-t-requires
 make_table-t-requires c = (c.requires.guaranteed.0, c.requires.guaranteed.2, c.requires.guaranteed.1)
 
 pub some_leaf_too_large-requires : goal.some_leaf_too_large-requires
-some_leaf_too_large-requires c = (c.requires.rows_are, prepared _ _ _ c.requires.guaranteed c.make_table-t.ensures)
+some_leaf_too_large-requires c = prepared _ _ _ c.requires.guaranteed c.make_table-t.ensures
 
 pub returns-then-some_leaf_too_large : goal.returns-then-some_leaf_too_large
 returns-then-some_leaf_too_large c = record { value = whole_large _ _ _ (prepared _ _ _ c.requires.guaranteed c.make_table-t.ensures) c.args.area.now c.requires.room c.some_leaf_too_large.ensures c.if-some_leaf_too_large.true; rest_kept = (refl, refl) }
 
 pub fill-requires : goal.fill-requires
-fill-requires c = record { rows_are = (c.requires.rows_are, prepared _ _ _ c.requires.guaranteed c.make_table-t.ensures); room = c.requires.room; none_large = sym c.some_leaf_too_large.ensures ∙ c.if-some_leaf_too_large.false }
+fill-requires c = record { prepared = prepared _ _ _ c.requires.guaranteed c.make_table-t.ensures; room = c.requires.room; none_large = sym c.some_leaf_too_large.ensures ∙ c.if-some_leaf_too_large.false }
 
 pub spend-left-requires : goal.spend-left-requires
 spend-left-requires c = record { prepared = prepared _ _ _ c.requires.guaranteed c.make_table-t.ensures; room = room_filled _ _ _ (prepared _ _ _ c.requires.guaranteed c.make_table-t.ensures) _ c.requires.room c.some_leaf_too_large.ensures c.if-some_leaf_too_large.false c.fill.ensures }
