@@ -84,19 +84,13 @@ module _ (loads ns : List ℕ) (f : fits (map visit loads) ns ≡ true) (acc bef
       sym (ap capped (sym (mul-one acc) ∙ ap (λ x. acc * x) (sym e) ∙ r)) ∙ capped_exact low
 
   -- with the next chain's part
-  module _ (h : k < length loads) where
-    abbrev load : ℕ
-    load = get_or loads k 0
-
-    abbrev n : ℕ
-    n = get_or ns k 0
-
+  module _ (h : k < length loads) {load n : ℕ} (el : get_or loads k 0 ≡ load) (en : get_or ns k 0 ≡ n) where
     abbrev later : ℕ
     later = weight_after (before + n) (drop (k + 1) loads) (drop (k + 1) ns)
 
     part_on : acc * load ^ n * binomial (before + n) n * later ≡ weight loads ns
     unfolding Reached
-    part_on = omega (arith, ap (λ x. acc * x) (after_at loads ns k before h (fits-length loads ns f)), r)
+    part_on = rw (← el, ← en) (omega (arith, ap (λ x. acc * x) (after_at loads ns k before h (fits-length loads ns f)), r))
 
     later_pos : 1 ≤ later
     later_pos = after_pos (before + n) (drop (k + 1) loads) (drop (k + 1) ns) (fits-drop (k + 1) loads ns f)
