@@ -4,7 +4,8 @@ use mathlib.Core.Path.{◌≡◌, refl, sym, ap, ◌∙◌}
 use mathlib.Core.Bool.{Bool, true, false}
 use mathlib.Core.List.{List, ◌++◌}
 use native.Mathlib.Omega.{arith}
-use lib.ListN.{length, get_or, drop}
+use lib.ListN.{length, get_or, take, drop}
+use lib.Seq.{length-take-le, get_or-take}
 use Rattle.sums.specs.Lists.{some}
 use Rattle.network.specs.Cells.{start_cell, filled}
 use Rattle.network.proofs.AreaLaws.{length-spread}
@@ -71,6 +72,18 @@ module _ (m : Model) (windows : List ℕ) (t : Table) (p : Prepared m windows t)
       let e : i ≡ t.count = omega (arith, w.low) in
       let f = ap (first_cells m.loads ch t) e ∙ filled_is m windows t p in
       w.filled.is ∙ ap (λ l. l ++ drop (length l) old) f ∙ ap (λ n. whole ++ drop n old) length_whole
+
+  first_nodes : length (take t.count t.nodes) ≡ t.count
+  first_nodes = length-take-le t.count t.nodes (count_low m windows t p)
+
+  pub among_first : (i : ℕ) → i < length (take t.count t.nodes) → i < t.count
+  among_first i h = omega (arith, first_nodes)
+
+  pub past_first : (i : ℕ) → length (take t.count t.nodes) ≤ i → t.count ≤ i
+  past_first i h = omega (arith, first_nodes)
+
+  pub first_at : (i : ℕ) → i < t.count → get_or (take t.count t.nodes) i no_node ≡ node_at t i
+  first_at i h = get_or-take t.count t.nodes i no_node h
 
   module _ {i : ℕ} (h : i < t.count) where
     pub inside : i < length t.nodes

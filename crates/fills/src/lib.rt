@@ -19,56 +19,44 @@ use plan::{Chains, Node, Table};
 pub fn clear(part: &mut [u64])
     ensures { part.new ≡ replicate (length part.old) 0 }
 {
-    let mut i = 0;
-    while i < part.len() {
-        part[i] = 0;
-        i += 1;
-    }
+    part.fill(0);
 }
 
-fn node_too_large(loads: &[u64], ch: Chains, n: Node) -> bool
-    requires { NodeIn loads.now ch n }
-    ensures { result ≡ some too_large (node_cells loads.now ch n) }
+fn node_too_large(loads: &[u64], ch: &Chains, n: &Node) -> bool
+    requires { NodeIn loads.now ch.now n.now }
+    ensures { result ≡ some too_large (node_cells loads.now ch.now n.now) }
 {
-    if n.centre == 0 {
-        return false;
-    }
-    leaf_too_large(loads, ch, n)
+    n.centre != 0 && leaf_too_large(loads, ch, n)
 }
 
-fn write_node(loads: &[u64], ch: Chains, n: Node, area: &mut [u64])
-    requires node { NodeIn loads.now ch n }
-    requires room { n.base + n.cells ≤ length area.old }
-    requires none_large { some too_large (node_cells loads.now ch n) ≡ false }
-    ensures { area.new ≡ put n.base (node_cells loads.now ch n) area.old }
+fn write_node(loads: &[u64], ch: &Chains, n: &Node, area: &mut [u64])
+    requires node { NodeIn loads.now ch.now n.now }
+    requires room { n.now.base + n.now.cells ≤ length area.old }
+    requires none_large { some too_large (node_cells loads.now ch.now n.now) ≡ false }
+    ensures { area.new ≡ put n.now.base (node_cells loads.now ch.now n.now) area.old }
 {
     if n.centre == 0 {
         let from = n.base;
         let to = from + n.cells;
         clear(&mut area[from..to]);
-        return;
+    } else {
+        write_leaf(loads, ch, n, area);
     }
-    write_leaf(loads, ch, n, area);
 }
 
 pub fn some_leaf_too_large(m: Model, windows: [usize; 8], t: Table) -> bool
     requires { Prepared m windows t }
     ensures { result ≡ some too_large (filled_by m (windows_in m windows)) }
 {
-    let loads = m.loads;
-    let nodes = t.nodes;
-    let totals = t.totals;
     let ch = Chains {
         count: m.chains,
-        totals,
+        totals: t.totals,
         windows,
     };
-    let mut i = 0;
-    while i < t.count {
-        if node_too_large(&loads, ch, nodes[i]) {
+    for node in &t.nodes[..t.count] {
+        if node_too_large(&m.loads, &ch, node) {
             return true;
         }
-        i += 1;
     }
     false
 }
@@ -80,17 +68,12 @@ pub fn fill(m: Model, windows: [usize; 8], t: Table, area: &mut [u64])
     requires none_large { some too_large (filled_by m (windows_in m windows)) ≡ false }
     ensures { area.new ≡ filled_by m (windows_in m windows) ++ drop (cells_in m (windows_in m windows)) area.old }
 {
-    let loads = m.loads;
-    let nodes = t.nodes;
-    let totals = t.totals;
     let ch = Chains {
         count: m.chains,
-        totals,
+        totals: t.totals,
         windows,
     };
-    let mut next = 0;
-    while next < t.count {
-        write_node(&loads, ch, nodes[next], area);
-        next += 1;
+    for n in &t.nodes[..t.count] {
+        write_node(&m.loads, &ch, n, area);
     }
 }
