@@ -87,8 +87,14 @@ fn fill(chains: &[Reach], acc: u64, before: usize, out: &mut [u64], at: usize) -
             let mut power = exact_power(acc, chain.load, chain.low);
             let mut next = at;
             for i in chain.low..chain.high + 1 {
-                let ways = binomial(before + i, i);
-                next = fill(later, power * ways, before + i, out, next);
+                let cell = power * binomial(before + i, i);
+                if later.is_empty() {
+                    // a call would store this cell too, and take longer
+                    out[next] = cell;
+                    next += 1;
+                } else {
+                    next = fill(later, cell, before + i, out, next);
+                }
                 power = power.wrapping_mul(chain.load);
             }
             next
