@@ -10,7 +10,7 @@ use Rattle.network.specs.Cells.{indices}
 use Rattle.network.specs.Weight.{weight}
 use Rattle.network.proofs.CellLaws.{length-indices}
 use Rattle.weights.specs.declared.Reach.{Reach}
-use Rattle.weights.specs.Leaf.{reaches, loads_of, between, LeafEnds}
+use Rattle.weights.specs.Leaf.{reaches, loads_of, between}
 use Rattle.weights.proofs.BetweenLaws.{between_spans, reaches_loads, between-cells}
 use Rattle.plan.specs.declared.Chains.{Chains}
 use Rattle.plan.specs.declared.Node.{Node}
@@ -32,9 +32,6 @@ module _ (loads : List ℕ) (ch : Chains) (n : Node) (leaf : LeafIn loads ch n) 
 
   -- what the chains have there has the leaf's cells
   module _ (chains : List Reach) (e : chains ≡ reaches (loads_in loads ch n) (spans_in ch n)) where
-    pub part_ends : LeafEnds chains
-    part_ends = rw e leaf.ends
-
     pub part_cells : map (weight (loads_of chains)) (between chains) ≡ leaf_cells loads ch n
     unfolding leaf_cells
     part_cells = rw e (λ t. map (weight (reaches_loads (loads_in loads ch n) (spans_in ch n) (spans-length leaf) t)) (between_spans (loads_in loads ch n) (spans_in ch n) (spans-length leaf) t))

@@ -3,6 +3,7 @@ use Prim.Native.Nat.{ℕ, ◌+◌, ◌≤◌, ◌<◌}
 use mathlib.Core.Path.{◌≡◌, refl, sym, ap, ◌∙◌}
 use mathlib.Core.Bool.{Bool, true, false}
 use mathlib.Core.List.{List, ◌++◌}
+use native.Mathlib.Nat.{le_refl}
 use native.Mathlib.Omega.{arith}
 use lib.ListN.{length, get_or, take, drop}
 use lib.Seq.{length-take-le, get_or-take}
@@ -73,17 +74,18 @@ module _ (m : Model) (windows : List ℕ) (t : Table) (p : Prepared m windows t)
       let f = ap (first_cells m.loads ch t) e ∙ filled_is m windows t p in
       w.filled.is ∙ ap (λ l. l ++ drop (length l) old) f ∙ ap (λ n. whole ++ drop n old) length_whole
 
-  first_nodes : length (take t.count t.nodes) ≡ t.count
-  first_nodes = length-take-le t.count t.nodes (count_low m windows t p)
+  -- the nodes passed over: the first n
+  first_nodes : {n : ℕ} → n ≤ t.count → length (take n t.nodes) ≡ n
+  first_nodes {n} l = length-take-le n t.nodes (omega (arith, count_low m windows t p))
 
-  pub among_first : (i : ℕ) → i < length (take t.count t.nodes) → i < t.count
-  among_first i h = omega (arith, first_nodes)
+  pub among_first : {n i : ℕ} → i < length (take n t.nodes) → n ≤ t.count → i < t.count
+  among_first h l = omega (arith, first_nodes l)
 
-  pub past_first : (i : ℕ) → length (take t.count t.nodes) ≤ i → t.count ≤ i
-  past_first i h = omega (arith, first_nodes)
+  pub first_at : {n i : ℕ} → i < length (take n t.nodes) → n ≤ t.count → get_or (take n t.nodes) i no_node ≡ node_at t i
+  first_at {n} {i} h l = get_or-take n t.nodes i no_node (omega (arith, first_nodes l))
 
-  pub first_at : (i : ℕ) → i < t.count → get_or (take t.count t.nodes) i no_node ≡ node_at t i
-  first_at i h = get_or-take t.count t.nodes i no_node h
+  pub past_first : {i : ℕ} → length (take t.count t.nodes) ≤ i → t.count ≤ i
+  past_first h = omega (arith, first_nodes (le_refl t.count))
 
   module _ {i : ℕ} (h : i < t.count) where
     pub inside : i < length t.nodes

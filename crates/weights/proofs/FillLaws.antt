@@ -98,18 +98,21 @@ module _ (r : Reach) (later : List Reach) (acc before : ℕ) where
     pub filling_start : (power : ℕ) → power ≡ acc * r.load ^ r.low → Filling at old r.low power at old
     filling_start power e = record { power_is = λ h. e; place = ap (λ l. at + length l) remaining_all; list = ap (λ l. take at old ++ l) remaining_all }
 
-    pub filling_end : {i power next : ℕ} {out : List ℕ} → Filling at old i power next out → i ≡ r.high + 1 → (next ≡ at + length (between (r ∷ later))) × (take next out ≡ take at old ++ whole)
-    filling_end {i} {power} {next} {out} f h =
+    end : {i power next : ℕ} {out : List ℕ} → Filling at old i power next out → i ≡ r.high + 1 → (next ≡ at + length (between (r ∷ later))) × (take next out ≡ take at old ++ whole)
+    end {i} {power} {next} {out} f h =
         let e = remaining_none i h in
         (omega (arith, f.place, ap length e, cells_length acc before (r ∷ later)), sym (append-nil (take next out)) ∙ ap (λ x. take next out ++ x) (sym e) ∙ f.list)
 
 -- ---- no product is too large
 
-module _ {r : Reach} {later : List Reach} {acc before at room : ℕ} (to : ToFill (r ∷ later) acc before at room) where
-  abbrev here : Sound r
+module _ {chains : List Reach} {r : Reach} {later : List Reach} {acc before at room : ℕ} (split : chains ≡ r ∷ later) (asked : ToFill chains acc before at room) where
+  to : ToFill (r ∷ later) acc before at room
+  to = rw split at asked
+
+  here : Sound r
   here = All-head Sound r later to.sound
 
-  abbrev there : All Sound later
+  there : All Sound later
   there = All-tail Sound r later to.sound
 
   abbrev after : ℕ → ℕ
@@ -121,7 +124,10 @@ module _ {r : Reach} {later : List Reach} {acc before at room : ℕ} (to : ToFil
   after_low : (n : ℕ) → 1 ≤ after n
   after_low n = after_pos (before + n) (loads_of later) (highs_of later) (fits_of (loads_of later) (highs_of later) (highs-length later) (highs_absent later there))
 
-  module _ (i : ℕ) (l : i ≤ r.high) where
+  pub high_small : r.high ≤ 15
+  high_small = here.window
+
+  module _ {i : ℕ} (l : i ≤ r.high) where
     deeper_low : part acc before r.load i * after i < 2 ^ 64
     deeper_low =
         let s : before + i ≤ before + r.high = omega arith in
@@ -132,53 +138,57 @@ module _ {r : Reach} {later : List Reach} {acc before at room : ℕ} (to : ToFil
     part_low : part acc before r.load i < 2 ^ 64
     part_low = omega (arith, deeper_low, times_more (part acc before r.load i) (after i) (after_low i))
 
-    pub power_low : acc * r.load ^ i < 2 ^ 64
+    power_low : acc * r.load ^ i < 2 ^ 64
     power_low = omega (arith, part_low, times_more (acc * r.load ^ i) (binomial (before + i) i) (binomial_pos before i))
 
-    pub index_small : i ≤ 15
-    index_small = omega (arith, here.window)
-
-    pub sum_small : before + i ≤ 120
-    sum_small = omega (arith, index_small, to.messages)
-
-  pub ordered : r.low ≤ r.high
-  ordered = here.ordered
-
-  pub high_small : r.high ≤ 15
-  high_small = here.window
-
   pub start_low : acc * r.load ^ r.low < 2 ^ 64
-  start_low = power_low r.low here.ordered
+  start_low = power_low here.ordered
+
+  -- what the binomial asks
+  pub in_table : {i : ℕ} → i < r.high + 1 → (before + i ≤ 120) × (i ≤ 15)
+  in_table {i} h = (omega (arith, high_small, to.messages), omega (arith, high_small))
+
+  -- the loop's end
+  pub filling_end : {old : List ℕ} {i power next : ℕ} {out : List ℕ} → Filling r later acc before at old i power next out → (r.low ≤ r.high + 1 → i ≤ r.high + 1) → r.high + 1 ≤ i
+      → (next ≡ at + length (between chains)) × (take next out ≡ take at old ++ cells_from acc before chains)
+  filling_end {old} {i} f u h = let e : i ≡ r.high + 1 = omega (arith, here.ordered, u) in rw split (end r later acc before at old f e)
 
   -- ---- one turn of the loop
 
-  module _ {old : List ℕ} {i power next : ℕ} {out : List ℕ} (long : length old ≡ room) (f : Filling r later acc before at old i power next out) (l : i ≤ r.high) (ways : ℕ) (e : ways ≡ binomial (before + i) i) where
+  module _ {old : List ℕ} {i power next : ℕ} {out : List ℕ} {ways : ℕ} (f : Filling r later acc before at old i power next out) (h : i < r.high + 1) (e : ways ≡ binomial (before + i) i) where
+    low : i ≤ r.high
+    low = omega arith
+
     part_is : power * ways ≡ part acc before r.load i
-    part_is = λ t. f.power_is l t * e t
+    part_is = λ t. f.power_is low t * e t
 
     pub product_low : power * ways < 2 ^ 64
-    product_low = omega (arith, part_is, part_low i l)
+    product_low = omega (arith, part_is, part_low low)
 
     more_is : remaining r later acc before i ≡ cells_from (power * ways) (before + i) later ++ remaining r later acc before (i + 1)
-    more_is = remaining_more r later acc before i l ∙ ap (λ p. cells_from p (before + i) later ++ remaining r later acc before (i + 1)) (sym part_is)
+    more_is = remaining_more r later acc before i low ∙ ap (λ p. cells_from p (before + i) later ++ remaining r later acc before (i + 1)) (sym part_is)
 
     more_length : next + length (between later) + length (remaining r later acc before (i + 1)) ≡ at + length (between (r ∷ later))
     more_length = omega (arith, f.place, ap length more_is, length-append (cells_from (power * ways) (before + i) later) (remaining r later acc before (i + 1)), cells_length (power * ways) (before + i) later, cells_length acc before (r ∷ later))
 
+    -- the chains after this one, or the one cell where there are none
     pub deeper : {now_room : ℕ} → now_room ≡ room → ToFill later (power * ways) (before + i) next now_room
     deeper s =
         record {
           sound = there;
-          messages = omega (arith, to.messages, here.window);
-          largest = subst (λ p. p * after i < 2 ^ 64) (sym part_is) (deeper_low i l);
+          messages = omega (arith, to.messages, high_small);
+          largest = subst (λ p. p * after i < 2 ^ 64) (sym part_is) (deeper_low low);
           space = omega (arith, more_length, to.space);
         }
 
+    pub cell_inside : {now_room : ℕ} → now_room ≡ room → length later ≡ 0 → next < now_room
+    cell_inside s none = omega (arith, one_cell later none, (deeper s).space)
+
     -- past the highest value the power may wrap
     power_more : {power_then : ℕ} → power_then ≡ power * r.load % 2 ^ 64 → i + 1 ≤ r.high → power_then ≡ acc * r.load ^ (i + 1)
-    power_more d h =
-        let m : power * r.load ≡ acc * r.load ^ (i + 1) = rw (add-one i, pow-suc r.load i) (ap (λ x. x * r.load) (f.power_is l) ∙ mul_assoc acc (r.load ^ i) r.load) in
-        omega (arith, d, m, power_low (i + 1) h)
+    power_more d u =
+        let m : power * r.load ≡ acc * r.load ^ (i + 1) = rw (add-one i, pow-suc r.load i) (ap (λ x. x * r.load) (f.power_is low) ∙ mul_assoc acc (r.load ^ i) r.load) in
+        omega (arith, d, m, power_low u)
 
     pub filling_more : {then power_then : ℕ} {now : List ℕ} → then ≡ next + length (between later) → take then now ≡ take next out ++ cells_from (power * ways) (before + i) later → power_then ≡ power * r.load % 2 ^ 64
         → Filling r later acc before at old (i + 1) power_then then now
@@ -188,3 +198,7 @@ module _ {r : Reach} {later : List Reach} {acc before at room : ℕ} (to : ToFil
           place = omega (arith, p, more_length, cells_length acc before (r ∷ later));
           list = ap (λ x. x ++ remaining r later acc before (i + 1)) w ∙ append_assoc (take next out) (cells_from (power * ways) (before + i) later) (remaining r later acc before (i + 1)) ∙ ap (λ x. take next out ++ x) (sym more_is) ∙ f.list;
         }
+
+    pub filling_stored : {power_then room : ℕ} → length out ≡ room → length later ≡ 0 → next < room → power_then ≡ power * r.load % 2 ^ 64
+        → Filling r later acc before at old (i + 1) power_then (next + 1) (set out next (power * ways))
+    filling_stored s none l d = filling_more (ap (λ n. next + n) (sym (one_cell later none))) (last_filled later none (power * ways) (before + i) out next (omega arith)) d

@@ -1,5 +1,5 @@
 -- A whole leaf: filling from the first chain present on writes the weights, since the chains present have all the cells.
-use Prim.Native.Nat.{ℕ, ◌+◌, ◌^◌, ◌≤◌}
+use Prim.Native.Nat.{ℕ, ◌+◌, ◌^◌}
 use mathlib.Core.Path.{◌≡◌, sym, ap, ◌∙◌}
 use mathlib.Core.Bool.{false}
 use mathlib.Core.List.{List, map, ◌++◌}
@@ -40,9 +40,6 @@ module _ {chains : List Reach} (ends : LeafEnds chains) {n : ℕ} {kept : List R
 
   kept_weights : map (weight (loads_of (take n kept))) (between (take n kept)) ≡ map (weight (loads_of chains)) (between chains)
   kept_weights = sym (leaf_cells_lem (take n kept)) ∙ kept_cells ∙ leaf_cells_lem chains
-
-  pub kept_room : n ≤ length kept
-  kept_room = omega (arith, k.room, k.few)
 
   pub kept_to_fill : (room : ℕ) → room ≡ length (between chains) → some (λ n. leb (2 ^ 64) n) (map (weight (loads_of chains)) (between chains)) ≡ false → ToFill (take n kept) 1 0 0 room
   kept_to_fill room e none =

@@ -1,25 +1,23 @@
 -- The chains present at a leaf have all its cells: one that stands at 0 has one index value, and its factor is 1. The loop that keeps
--- them, chain after chain.
-use Prim.Native.Nat.{ℕ, suc, ◌+◌, ◌-◌, ◌*◌, ◌≤◌, ◌<◌}
-use mathlib.Core.Path.{◌≡◌, refl, sym, ap, ◌∙◌}
+-- them, chain after chain: the check finds its turns alone.
+use Prim.Native.Nat.{ℕ, suc, ◌+◌, ◌-◌, ◌*◌, ◌≤◌}
+use mathlib.Core.Path.{◌≡◌, refl, sym, ◌∙◌}
 use mathlib.Core.Bool.{Bool, true, false, cond}
-use mathlib.Core.List.{List, [], ◌∷◌, ◌++◌, flat_map, append-nil}
+use mathlib.Core.List.{List, [], ◌∷◌, flat_map, append-nil}
 use native.Mathlib.Nat.{mul-one, pow-zero}
-use native.Mathlib.Numerals.{add-one}
 use native.Mathlib.Omega.{arith}
 use lib.Dec.{ltb}
-use lib.ListN.{length, get_or, take, set, length-set}
-use lib.Seq.{take-suc-set, take_all}
-use borrow.Author.Tests.{lt-ltb, le-ltb, ltb-false}
+use lib.ListN.{length, take}
+use borrow.Author.Tests.{ltb-false}
 use Rattle.std.specs.List.{All}
-use Rattle.std.proofs.lemmas.List.Elements.{All-head, All-tail, filter_more}
+use Rattle.std.proofs.lemmas.List.Elements.{All-head, All-tail}
 use Rattle.sums.specs.Lists.{from}
 use Rattle.sums.proofs.ListLaws.{flat_cong}
 use Rattle.network.specs.Weight.{binomial}
 use Rattle.weights.specs.declared.Reach.{Reach}
 use Rattle.weights.specs.Leaf.{Sound}
 use Rattle.weights.specs.Parts.{cells_from}
-use Rattle.weights.specs.Present.{present, Kept}
+use Rattle.weights.specs.Present.{present}
 use Rattle.weights.proofs.FillLaws.{part, chain_cells}
 
 -- a chain that stands at 0
@@ -54,22 +52,3 @@ pub record Keeping (chains : List Reach) (i count : ℕ) (kept : List Reach) : T
   pub few : count ≤ i
   pub room : length kept ≡ 8
   pub list : take count kept ≡ present (take i chains)
-
-module _ {chains : List Reach} {i count : ℕ} {kept : List Reach} (k : Keeping chains i count kept) (d : Reach) (h : i < length chains) where
-  next_list : (b : Bool) → ltb 0 (get_or chains i d).high ≡ b → present (take (i + 1) chains) ≡ present (take i chains) ++ cond b (get_or chains i d ∷ []) []
-  next_list b e = filter_more (λ r. ltb 0 r.high) chains i d h ∙ ap (λ b. present (take i chains) ++ cond b (get_or chains i d ∷ []) []) e
-
-  pub keeping_one : length chains ≤ 8 → 0 < (get_or chains i d).high → Keeping chains (i + 1) (count + 1) (set kept count (get_or chains i d))
-  keeping_one most t =
-      let l : count < length kept = omega (arith, k.room, k.few) in
-      record {
-        few = omega (arith, k.few);
-        room = length-set kept count (get_or chains i d) ∙ k.room;
-        list = rw (add-one count) (take-suc-set kept count (get_or chains i d) l) ∙ ap (λ l. l ++ (get_or chains i d ∷ [])) k.list ∙ sym (next_list true (lt-ltb 0 _ t));
-      }
-
-  pub keeping_none : (get_or chains i d).high ≤ 0 → Keeping chains (i + 1) count kept
-  keeping_none t = record { few = omega (arith, k.few); room = k.room; list = k.list ∙ sym (next_list false (le-ltb 0 _ t) ∙ append-nil (present (take i chains))) }
-
-pub keeping_done : {chains : List Reach} {i count : ℕ} {kept : List Reach} → Keeping chains i count kept → length chains ≤ 8 → i ≤ length chains → length chains ≤ i → Kept chains count kept
-keeping_done {chains} {i} k most l h = record { room = k.room; few = omega (arith, k.few); list = k.list ∙ ap present (take_all i chains h) }
