@@ -53,12 +53,8 @@ pub fn some_leaf_too_large(m: Model, windows: [usize; 8], t: Table) -> bool
         totals: t.totals,
         windows,
     };
-    for node in &t.nodes[..t.count] {
-        if node_too_large(&m.loads, &ch, node) {
-            return true;
-        }
-    }
-    false
+    let nodes = &t.nodes[..t.count];
+    nodes.iter().any(|n| node_too_large(&m.loads, &ch, n))
 }
 
 // The cells past the model's stay as they are.
