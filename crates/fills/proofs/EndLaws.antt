@@ -19,7 +19,8 @@ use Rattle.plan.specs.declared.Cover.{Cover}
 use Rattle.plan.specs.declared.Node.{Node}
 use Rattle.fills.specs.Nodes.{span_at, spans_in, loads_in, LeafIn}
 
-zip_by : (g : ℕ → ℕ) (sp : ℕ → Span) (n a : ℕ) (xs : List ℕ) → length xs ≡ n → ((i : ℕ) → i < n → get_or xs i 0 ≡ g (a + i)) → reaches xs (map sp (from a n)) ≡ map (λ i. reach_by (g i) (sp i)) (from a n)
+zip_by : (g : ℕ → ℕ) (sp : ℕ → Span) (n a : ℕ) (xs : List ℕ) → length xs ≡ n → ((i : ℕ) → i < n → get_or xs i 0 ≡ g (a + i))
+    → reaches xs (map sp (from a n)) ≡ map (λ i. reach_by (g i) (sp i)) (from a n)
 unfolding zip_with from
 zip_by g sp zero a [] e h = refl
 zip_by g sp zero a (x ∷ xs) e h = absurd (omega arith)
@@ -47,7 +48,8 @@ module _ {loads : List ℕ} {ch : Chains} {n : Node} (leaf : LeafIn loads ch n) 
   unfolding spans_by
   spans-length = length-map (from 0 ch.count) (span_at ch n.counts) ∙ length_from 0 ch.count ∙ sym loads-length
 
-  pub found_turn : {found : List Reach} {k : ℕ} {r : Reach} (c : Cover) → Found loads ch n found k → k < ch.count → covering c ≡ coverage_by_count (get_or n.counts k 0) (get_or ch.totals k 0)
+  pub found_turn : {found : List Reach} {k : ℕ} {r : Reach} (c : Cover) → Found loads ch n found k → k < ch.count
+      → covering c ≡ coverage_by_count (get_or n.counts k 0) (get_or ch.totals k 0)
       → r ≡ reach_by (get_or loads ((n.centre - 1) * 8 + k) 0) (span (covering c) (get_or ch.windows k 0)) → Found loads ch n (set found k r) (k + 1)
   found_turn {found} {k} {r} c f h ec er =
       let l : k < length found = omega (arith, f.room, leaf.few.chains_few) in
@@ -56,11 +58,15 @@ module _ {loads : List ℕ} {ch : Chains} {n : Node} (leaf : LeafIn loads ch n) 
         room = length-set found k r ∙ f.room;
         list =
             rw (add-one k) (take-suc-set found k r l) ∙ (λ t. f.list t ++ (e t ∷ []))
-            ∙ sym (ap (λ x. map (reach_at loads ch n) (from 0 x)) (add-one k) ∙ ap (map (reach_at loads ch n)) (from_more 0 k) ∙ map-append (reach_at loads ch n) (from 0 k) ((0 + k) ∷ []) ∙ ap (λ x. map (reach_at loads ch n) (from 0 k) ++ (reach_at loads ch n x ∷ [])) (zero-add k));
+            ∙ sym (ap (λ x. map (reach_at loads ch n) (from 0 x)) (add-one k) ∙ ap (map (reach_at loads ch n)) (from_more 0 k)
+            ∙ map-append (reach_at loads ch n) (from 0 k) ((0 + k) ∷ [])
+            ∙ ap (λ x. map (reach_at loads ch n) (from 0 k) ++ (reach_at loads ch n x ∷ [])) (zero-add k));
       }
 
   pub found_all : {found : List Reach} {k : ℕ} → Found loads ch n found k → k ≡ ch.count → take ch.count found ≡ reaches (loads_in loads ch n) (spans_in ch n)
   unfolding spans_by
   found_all {found} {k} f h =
       sym (ap (λ x. take x found) h) ∙ f.list ∙ ap (λ x. map (reach_at loads ch n) (from 0 x)) h
-      ∙ sym (zip_by (λ i. get_or loads ((n.centre - 1) * 8 + i) 0) (span_at ch n.counts) ch.count 0 (loads_in loads ch n) loads-length (λ i l. get_or-take ch.count (drop ((n.centre - 1) * 8) loads) i 0 l ∙ get_or-drop ((n.centre - 1) * 8) loads i 0 ∙ ap (λ x. get_or loads ((n.centre - 1) * 8 + x) 0) (sym (zero-add i))))
+      ∙ sym (zip_by (λ i. get_or loads ((n.centre - 1) * 8 + i) 0) (span_at ch n.counts) ch.count 0 (loads_in loads ch n) loads-length
+      (λ i l. get_or-take ch.count (drop ((n.centre - 1) * 8) loads) i 0 l ∙ get_or-drop ((n.centre - 1) * 8) loads i 0
+      ∙ ap (λ x. get_or loads ((n.centre - 1) * 8 + x) 0) (sym (zero-add i))))

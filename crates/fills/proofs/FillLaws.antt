@@ -30,7 +30,8 @@ module _ {A : Type 0} (g : A → List ℕ) (nodes : List A) (d : A) where
     unfolding some flat_map
     none_first = refl
 
-    pub none_more : (i : ℕ) → i < length nodes → some test (cells_to i) ≡ false → some test (g (get_or nodes i d)) ≡ false → some test (cells_to (i + 1)) ≡ false
+    pub none_more : (i : ℕ) → i < length nodes → some test (cells_to i) ≡ false → some test (g (get_or nodes i d)) ≡ false
+        → some test (cells_to (i + 1)) ≡ false
     none_more i h a b = ap (some test) (to_more i h) ∙ some-append test (cells_to i) (g (get_or nodes i d)) ∙ (λ j. a j || b j)
 
     module _ (n i : ℕ) (k : n ≤ length nodes) (h : i < n) where
@@ -55,7 +56,8 @@ module _ {A : Type 0} (g : A → List ℕ) (nodes : List A) (d : A) where
   unfolding flat_map
   filled_first old = record { is = refl }
 
-  pub filled_turn : {old now next : List ℕ} {i at : ℕ} → i < length nodes → at ≡ length (cells_to i) → Filled old now i → next ≡ put at (g (get_or nodes i d)) now → Filled old next (i + 1)
+  pub filled_turn : {old now next : List ℕ} {i at : ℕ} → i < length nodes → at ≡ length (cells_to i) → Filled old now i
+      → next ≡ put at (g (get_or nodes i d)) now → Filled old next (i + 1)
   unfolding put
   filled_turn {old} {now} {next} {i} {at} h ea w e =
       let P = cells_to i in
@@ -65,7 +67,8 @@ module _ {A : Type 0} (g : A → List ℕ) (nodes : List A) (d : A) where
       record {
         is =
             e ∙ (λ j. put (ea j) X (w.is j))
-            ∙ (λ j. take-append_seam P (drop (length P) old) j ++ (X ++ (drop-append-add P (drop (length P) old) (length X) ∙ drop-drop (length X) (length P) old ∙ ap (λ n. drop n old) k) j))
+            ∙ (λ j. take-append_seam P (drop (length P) old) j ++
+            (X ++ (drop-append-add P (drop (length P) old) (length X) ∙ drop-drop (length X) (length P) old ∙ ap (λ n. drop n old) k) j))
             ∙ sym (append_assoc P X (drop (length (P ++ X)) old))
             ∙ ap (λ l. l ++ drop (length l) old) (sym m);
       }

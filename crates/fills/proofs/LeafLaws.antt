@@ -21,9 +21,11 @@ use Rattle.fills.proofs.EndLaws.{spans-length}
 pub part_room : (at count : ℕ) (area : List ℕ) → at + count ≤ length area → length (take (at + count - at) (drop at area)) ≡ count
 part_room at count area h = length-take-le (at + count - at) (drop at area) (omega (arith, length-drop at area)) ∙ omega arith
 
-pub put_part : (at count : ℕ) (area : List ℕ) {own cells : List ℕ} → own ≡ cells → length cells ≡ count → put_mid at (at + count - at) area own ≡ put at cells area
+pub put_part : (at count : ℕ) (area : List ℕ) {own cells : List ℕ} → own ≡ cells → length cells ≡ count
+    → put_mid at (at + count - at) area own ≡ put at cells area
 unfolding put
-put_part at count area {own} {cells} eo e = rw eo (ap (λ l. take at area ++ (cells ++ l)) (Post-is at (at + count) area (omega arith) ∙ ap (λ k. drop (at + k) area) (sym e)))
+put_part at count area {own} {cells} eo e = rw eo (ap (λ l. take at area ++ (cells ++ l)) (Post-is at (at + count) area (omega arith)
+    ∙ ap (λ k. drop (at + k) area) (sym e)))
 
 module _ (loads : List ℕ) (ch : Chains) (n : Node) (leaf : LeafIn loads ch n) where
   pub length_cells : length (leaf_cells loads ch n) ≡ n.cells
@@ -34,7 +36,8 @@ module _ (loads : List ℕ) (ch : Chains) (n : Node) (leaf : LeafIn loads ch n) 
   module _ (chains : List Reach) (e : chains ≡ reaches (loads_in loads ch n) (spans_in ch n)) where
     pub part_cells : map (weight (loads_of chains)) (between chains) ≡ leaf_cells loads ch n
     unfolding leaf_cells
-    part_cells = rw e (λ t. map (weight (reaches_loads (loads_in loads ch n) (spans_in ch n) (spans-length leaf) t)) (between_spans (loads_in loads ch n) (spans_in ch n) (spans-length leaf) t))
+    part_cells = rw e (λ t. map (weight (reaches_loads (loads_in loads ch n) (spans_in ch n) (spans-length leaf) t))
+        (between_spans (loads_in loads ch n) (spans_in ch n) (spans-length leaf) t))
 
     pub part_length : length (between chains) ≡ n.cells
     part_length = rw e (between-cells (loads_in loads ch n) (spans_in ch n) (spans-length leaf) ∙ sym leaf.cells_are)

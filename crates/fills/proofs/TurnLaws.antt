@@ -85,16 +85,25 @@ module _ (m : Model) (windows : List ℕ) (t : Table) (p : Prepared m windows t)
       let d : x ≡ node_at t k = e ∙ get_or_default (take t.count t.nodes) k x no_node h ∙ first_at h (le_refl t.count) in
       subst (NodeIn m.loads ch) (sym d) (node_ready m windows t p k l)
 
-  none_in : (n : ℕ) → n ≤ t.count → AllWithin (λ x. some too_large (cells_of x) ≡ false) (take t.count t.nodes) 0 (length (take t.count t.nodes)) → some too_large (first_cells m.loads ch t n) ≡ false
+  -- the nodes passed over, and what the question asks of each
+  abbrev passed : List Node
+  passed = take t.count t.nodes
+
+  abbrev Large : Node → Type 0
+  Large x = some too_large (cells_of x) ≡ true
+
+  abbrev Low : Node → Type 0
+  Low x = some too_large (cells_of x) ≡ false
+
+  none_in : (n : ℕ) → n ≤ t.count → AllWithin Low passed 0 (length passed) → some too_large (first_cells m.loads ch t n) ≡ false
   none_in zero l h = none_first cells_of t.nodes no_node too_large
   none_in (suc n) l h =
       let k : n < length t.nodes = omega (arith, count_low m windows t p) in
-      let i : n < length (take t.count t.nodes) = omega (arith, first_nodes (le_refl t.count)) in
+      let i : n < length passed = omega (arith, first_nodes (le_refl t.count)) in
       let e : some too_large (cells_of (node_at t n)) ≡ false = rw (first_at i (le_refl t.count)) at (h n no_node (omega arith) i) in
       rw (← add-one n) (none_more cells_of t.nodes no_node too_large n k (none_in n (omega arith) h) e)
 
-  pub any_is : (b : Bool) → MatchBool b ((k : ℕ) × (k < length (take t.count t.nodes)) × HoldsAt (λ x. some too_large (cells_of x) ≡ true) (take t.count t.nodes) k) (AllWithin (λ x. some too_large (cells_of x) ≡ false) (take t.count t.nodes) 0 (length (take t.count t.nodes)))
-      → b ≡ some too_large whole
+  pub any_is : (b : Bool) → MatchBool b ((k : ℕ) × (k < length passed) × HoldsAt Large passed k) (AllWithin Low passed 0 (length passed)) → b ≡ some too_large whole
   any_is true r =
       let h = among_first r.1 (le_refl t.count) in
       let e : some too_large (cells_of (node_at t r.0)) ≡ true = rw (first_at r.1 (le_refl t.count)) at (r.2 no_node) in
@@ -112,5 +121,11 @@ module _ (m : Model) (windows : List ℕ) (t : Table) (p : Prepared m windows t)
       pub next_room : (node_at t i).base + (node_at t i).cells ≤ length now
       next_room = omega (arith, node_room m windows t p i h, w.long)
 
-      pub written_turn : {next : List ℕ} → next ≡ put (node_at t i).base (cells_of (node_at t i)) now → length next ≡ length now → Written m.loads ch t old next (i + 1)
-      written_turn e l = record { low = omega arith; filled = filled_turn cells_of t.nodes no_node inside (node_base m windows t p i h) w.filled e; long = l ∙ w.long }
+      pub written_turn : {next : List ℕ} → next ≡ put (node_at t i).base (cells_of (node_at t i)) now → length next ≡ length now
+          → Written m.loads ch t old next (i + 1)
+      written_turn e l = record {
+        low = omega arith;
+        filled = filled_turn cells_of t.nodes no_node inside (node_base m windows t p i h) w.filled e;
+        long =
+            l ∙ w.long;
+      }

@@ -40,7 +40,8 @@ under_more : {n m : ℕ} (ns ms : List ℕ) → n ≤ m → Under ns ms → Unde
 under_more ns ms h u zero = h
 under_more ns ms h u (suc k) = u k
 
-pub between_under : (chains : List Reach) → All Sound chains → (ns : List ℕ) → Memᴰ ns (between chains) → (length ns ≡ length chains) × Under ns (highs_of chains)
+pub between_under : (chains : List Reach) → All Sound chains → (ns : List ℕ) → Memᴰ ns (between chains)
+    → (length ns ≡ length chains) × Under ns (highs_of chains)
 unfolding between
 between_under [] h ns m = let e = Memᴰ.eq_of_singleton m in (ap length e, λ k. subst (λ l. get_or l k 0 ≤ 0) (sym e) (le_refl 0))
 between_under (c ∷ chains) h ns m =
@@ -105,12 +106,19 @@ module _ (chains : List Reach) (sound : All Sound chains) where
   below_top : (ns : List ℕ) → Memᴰ ns (between chains) → weight (loads_of chains) ns ≤ weight (loads_of chains) (highs_of chains)
   below_top ns m =
       let r = between_under chains sound ns m in
-      omega (arith, weight_whole (loads_of chains) ns, weight_whole (loads_of chains) (highs_of chains), after_rises (loads_of chains) ns (highs_of chains) (r.0 ∙ sym (length-map chains (λ r. r.load))) (highs-length chains) (le_refl 0) r.1 (highs_absent chains sound))
+      omega (
+        arith,
+        weight_whole (loads_of chains) ns,
+        weight_whole (loads_of chains) (highs_of chains),
+        after_rises (loads_of chains) ns (highs_of chains) (r.0
+            ∙ sym (length-map chains (λ r. r.load))) (highs-length chains) (le_refl 0) r.1 (highs_absent chains sound),
+      )
 
   pub some_is_top : some (λ n. leb (2 ^ 64) n) (map (weight (loads_of chains)) (between chains)) ≡ leb (2 ^ 64) (weight (loads_of chains) (highs_of chains))
   some_is_top = by (leb (2 ^ 64) (weight (loads_of chains) (highs_of chains))) refl
     where
-      by : (b : Bool) → leb (2 ^ 64) (weight (loads_of chains) (highs_of chains)) ≡ b → some (λ n. leb (2 ^ 64) n) (map (weight (loads_of chains)) (between chains)) ≡ leb (2 ^ 64) (weight (loads_of chains) (highs_of chains))
+      by : (b : Bool) → leb (2 ^ 64) (weight (loads_of chains) (highs_of chains)) ≡ b
+          → some (λ n. leb (2 ^ 64) n) (map (weight (loads_of chains)) (between chains)) ≡ leb (2 ^ 64) (weight (loads_of chains) (highs_of chains))
       by true e = some_of (λ n. leb (2 ^ 64) n) (Memᴰ.map (weight (loads_of chains)) (between_top chains sound)) e ∙ sym e
       by false e = not_some (λ n. leb (2 ^ 64) n) (map (weight (loads_of chains)) (between chains)) (λ n m.
           let r = Memᴰ.of_map (weight (loads_of chains)) (between chains) m in

@@ -30,7 +30,8 @@ map_flat f g (x ∷ xs) = map-append f (g x) (flat_map g xs) ∙ ap (λ z. map f
 abbrev pub part : ℕ → ℕ → ℕ → ℕ → ℕ
 part acc before load n = acc * load ^ n * binomial (before + n) n
 
-pub chain_cells : (acc before : ℕ) (r : Reach) (later : List Reach) → cells_from acc before (r ∷ later) ≡ flat_map (λ n. cells_from (part acc before r.load n) (before + n) later) (from r.low (suc r.high - r.low))
+pub chain_cells : (acc before : ℕ) (r : Reach) (later : List Reach)
+    → cells_from acc before (r ∷ later) ≡ flat_map (λ n. cells_from (part acc before r.load n) (before + n) later) (from r.low (suc r.high - r.low))
 unfolding cells_from between
 chain_cells acc before r later =
     map_flat (λ ns. acc * weight_after before (loads_of (r ∷ later)) ns) (λ i. map (λ index. i ∷ index) (between later)) (from r.low (suc r.high - r.low))
@@ -98,14 +99,18 @@ module _ (r : Reach) (later : List Reach) (acc before : ℕ) where
     pub filling_start : (power : ℕ) → power ≡ acc * r.load ^ r.low → Filling at old r.low power at old
     filling_start power e = record { power_is = λ h. e; place = ap (λ l. at + length l) remaining_all; list = ap (λ l. take at old ++ l) remaining_all }
 
-    end : {i power next : ℕ} {out : List ℕ} → Filling at old i power next out → i ≡ r.high + 1 → (next ≡ at + length (between (r ∷ later))) × (take next out ≡ take at old ++ whole)
+    end : {i power next : ℕ} {out : List ℕ} → Filling at old i power next out → i ≡ r.high + 1
+        → (next ≡ at + length (between (r ∷ later))) × (take next out ≡ take at old ++ whole)
     end {i} {power} {next} {out} f h =
-        let e = remaining_none i h in
-        (omega (arith, f.place, ap length e, cells_length acc before (r ∷ later)), sym (append-nil (take next out)) ∙ ap (λ x. take next out ++ x) (sym e) ∙ f.list)
+        let e = remaining_none i h in (
+          omega (arith, f.place, ap length e, cells_length acc before (r ∷ later)),
+          sym (append-nil (take next out)) ∙ ap (λ x. take next out ++ x) (sym e)
+              ∙ f.list,
+        )
 
 -- ---- no product is too large
 
-module _ {chains : List Reach} {r : Reach} {later : List Reach} {acc before at room : ℕ} (split : chains ≡ r ∷ later) (asked : ToFill chains acc before at room) where
+module _ {chains later : List Reach} {r : Reach} {acc before at room : ℕ} (split : chains ≡ r ∷ later) (asked : ToFill chains acc before at room) where
   to : ToFill (r ∷ later) acc before at room
   to = rw split at asked
 
@@ -122,9 +127,10 @@ module _ {chains : List Reach} {r : Reach} {later : List Reach} {acc before at r
   at_top = omega (arith, ap (λ x. acc * x) (after_more before r.load r.high (loads_of later) (highs_of later)), to.largest)
 
   after_low : (n : ℕ) → 1 ≤ after n
-  after_low n = after_pos (before + n) (loads_of later) (highs_of later) (fits_of (loads_of later) (highs_of later) (highs-length later) (highs_absent later there))
+  after_low n = after_pos (before + n) (loads_of later) (highs_of later)
+      (fits_of (loads_of later) (highs_of later) (highs-length later) (highs_absent later there))
 
-  pub high_small : r.high ≤ 15
+  high_small : r.high ≤ 15
   high_small = here.window
 
   module _ {i : ℕ} (l : i ≤ r.high) where
@@ -132,7 +138,8 @@ module _ {chains : List Reach} {r : Reach} {later : List Reach} {acc before at r
     deeper_low =
         let s : before + i ≤ before + r.high = omega arith in
         let a : acc * r.load ^ i ≤ acc * r.load ^ r.high = mul-le-mul (le_refl acc) (power_rises r.load l here.absent) in
-        let b : after i ≤ after r.high = after_rises (loads_of later) (highs_of later) (highs_of later) (highs-length later) (highs-length later) s (λ j. le_refl _) (highs_absent later there) in
+        let b : after i ≤ after r.high = after_rises (loads_of later) (highs_of later) (highs_of later) (highs-length later) (highs-length later) s
+        (λ j. le_refl _) (highs_absent later there) in
         omega (arith, at_top, mul-le-mul (mul-le-mul a (binomial-rises (le_refl before) l)) b)
 
     part_low : part acc before r.load i < 2 ^ 64
@@ -144,18 +151,16 @@ module _ {chains : List Reach} {r : Reach} {later : List Reach} {acc before at r
   pub start_low : acc * r.load ^ r.low < 2 ^ 64
   start_low = power_low here.ordered
 
-  -- what the binomial asks
-  pub in_table : {i : ℕ} → i < r.high + 1 → (before + i ≤ 120) × (i ≤ 15)
-  in_table {i} h = (omega (arith, high_small, to.messages), omega (arith, high_small))
-
   -- the loop's end
-  pub filling_end : {old : List ℕ} {i power next : ℕ} {out : List ℕ} → Filling r later acc before at old i power next out → (r.low ≤ r.high + 1 → i ≤ r.high + 1) → r.high + 1 ≤ i
+  pub filling_end : {old : List ℕ} {i power next : ℕ} {out : List ℕ} → Filling r later acc before at old i power next out
+      → (r.low ≤ r.high + 1 → i ≤ r.high + 1) → r.high + 1 ≤ i
       → (next ≡ at + length (between chains)) × (take next out ≡ take at old ++ cells_from acc before chains)
   filling_end {old} {i} f u h = let e : i ≡ r.high + 1 = omega (arith, here.ordered, u) in rw split (end r later acc before at old f e)
 
   -- ---- one turn of the loop
 
-  module _ {old : List ℕ} {i power next : ℕ} {out : List ℕ} {ways : ℕ} (f : Filling r later acc before at old i power next out) (h : i < r.high + 1) (e : ways ≡ binomial (before + i) i) where
+  module _ {old : List ℕ} {i power next : ℕ} {out : List ℕ} {ways : ℕ} (f : Filling r later acc before at old i power next out) (h : i < r.high + 1)
+      (e : ways ≡ binomial (before + i) i) where
     low : i ≤ r.high
     low = omega arith
 
@@ -169,7 +174,15 @@ module _ {chains : List Reach} {r : Reach} {later : List Reach} {acc before at r
     more_is = remaining_more r later acc before i low ∙ ap (λ p. cells_from p (before + i) later ++ remaining r later acc before (i + 1)) (sym part_is)
 
     more_length : next + length (between later) + length (remaining r later acc before (i + 1)) ≡ at + length (between (r ∷ later))
-    more_length = omega (arith, f.place, ap length more_is, length-append (cells_from (power * ways) (before + i) later) (remaining r later acc before (i + 1)), cells_length (power * ways) (before + i) later, cells_length acc before (r ∷ later))
+    more_length = omega (
+      arith,
+      f.place,
+      ap length more_is,
+      length-append (cells_from (power * ways) (before + i) later)
+          (remaining r later acc before (i + 1)),
+      cells_length (power * ways) (before + i) later,
+      cells_length acc before (r ∷ later),
+    )
 
     -- the chains after this one, or the one cell where there are none
     pub deeper : {now_room : ℕ} → now_room ≡ room → ToFill later (power * ways) (before + i) next now_room
@@ -187,18 +200,23 @@ module _ {chains : List Reach} {r : Reach} {later : List Reach} {acc before at r
     -- past the highest value the power may wrap
     power_more : {power_then : ℕ} → power_then ≡ power * r.load % 2 ^ 64 → i + 1 ≤ r.high → power_then ≡ acc * r.load ^ (i + 1)
     power_more d u =
-        let m : power * r.load ≡ acc * r.load ^ (i + 1) = rw (add-one i, pow-suc r.load i) (ap (λ x. x * r.load) (f.power_is low) ∙ mul_assoc acc (r.load ^ i) r.load) in
+        let m : power * r.load ≡ acc * r.load ^ (i + 1) = rw (add-one i, pow-suc r.load i) (ap (λ x. x * r.load) (f.power_is low)
+        ∙ mul_assoc acc (r.load ^ i) r.load) in
         omega (arith, d, m, power_low u)
 
-    pub filling_more : {then power_then : ℕ} {now : List ℕ} → then ≡ next + length (between later) → take then now ≡ take next out ++ cells_from (power * ways) (before + i) later → power_then ≡ power * r.load % 2 ^ 64
+    pub filling_more : {then power_then : ℕ} {now : List ℕ} → then ≡ next + length (between later)
+        → take then now ≡ take next out ++ cells_from (power * ways) (before + i) later → power_then ≡ power * r.load % 2 ^ 64
         → Filling r later acc before at old (i + 1) power_then then now
     filling_more {then} {power_then} {now} p w d =
         record {
           power_is = power_more d;
           place = omega (arith, p, more_length, cells_length acc before (r ∷ later));
-          list = ap (λ x. x ++ remaining r later acc before (i + 1)) w ∙ append_assoc (take next out) (cells_from (power * ways) (before + i) later) (remaining r later acc before (i + 1)) ∙ ap (λ x. take next out ++ x) (sym more_is) ∙ f.list;
+          list = ap (λ x. x ++ remaining r later acc before (i + 1)) w
+              ∙ append_assoc (take next out) (cells_from (power * ways) (before + i) later) (remaining r later acc before (i + 1))
+              ∙ ap (λ x. take next out ++ x) (sym more_is) ∙ f.list;
         }
 
     pub filling_stored : {power_then room : ℕ} → length out ≡ room → length later ≡ 0 → next < room → power_then ≡ power * r.load % 2 ^ 64
         → Filling r later acc before at old (i + 1) power_then (next + 1) (set out next (power * ways))
-    filling_stored s none l d = filling_more (ap (λ n. next + n) (sym (one_cell later none))) (last_filled later none (power * ways) (before + i) out next (omega arith)) d
+    filling_stored s none l d = filling_more (ap (λ n. next + n) (sym (one_cell later none)))
+        (last_filled later none (power * ways) (before + i) out next (omega arith)) d

@@ -41,14 +41,20 @@ module _ {chains : List Reach} (ends : LeafEnds chains) {n : ℕ} {kept : List R
   kept_weights : map (weight (loads_of (take n kept))) (between (take n kept)) ≡ map (weight (loads_of chains)) (between chains)
   kept_weights = sym (leaf_cells_lem (take n kept)) ∙ kept_cells ∙ leaf_cells_lem chains
 
-  pub kept_to_fill : (room : ℕ) → room ≡ length (between chains) → some (λ n. leb (2 ^ 64) n) (map (weight (loads_of chains)) (between chains)) ≡ false → ToFill (take n kept) 1 0 0 room
+  pub kept_to_fill : (room : ℕ) → room ≡ length (between chains) → some (λ n. leb (2 ^ 64) n) (map (weight (loads_of chains)) (between chains)) ≡ false
+      → ToFill (take n kept) 1 0 0 room
   kept_to_fill room e none =
       record {
         sound = kept_sound;
         messages = omega (arith, kept_length, k.few);
-        largest = omega (arith, weight_whole (loads_of (take n kept)) (highs_of (take n kept)), top_low (take n kept) kept_sound (ap (some (λ n. leb (2 ^ 64) n)) kept_weights ∙ none));
+        largest = omega (
+          arith,
+          weight_whole (loads_of (take n kept)) (highs_of (take n kept)),
+          top_low (take n kept) kept_sound (ap (some (λ n. leb (2 ^ 64) n)) kept_weights ∙ none),
+        );
         space = omega (arith, kept_between);
       }
 
-  pub kept_filled : (old out : List ℕ) (r : ℕ) → length out ≡ length (between chains) → r ≡ 0 + length (between (take n kept)) → take r out ≡ take 0 old ++ cells_from 1 0 (take n kept) → out ≡ map (weight (loads_of chains)) (between chains)
+  pub kept_filled : (old out : List ℕ) (r : ℕ) → length out ≡ length (between chains) → r ≡ 0 + length (between (take n kept))
+      → take r out ≡ take 0 old ++ cells_from 1 0 (take n kept) → out ≡ map (weight (loads_of chains)) (between chains)
   kept_filled old out r s e l = sym (take_all r out (omega (arith, kept_between))) ∙ l ∙ leaf_cells_lem (take n kept) ∙ kept_weights

@@ -65,7 +65,8 @@ module _ (cover : ℕ → Coverage) where
   spans_absent a (w ∷ windows) (suc k) e = spans_absent (suc a) windows k (ap cover (suc-add a k ∙ sym (add-suc a k)) ∙ e)
 
 -- chains with such spans
-sound_all : (loads : List ℕ) (spans : List Span) → length spans ≡ length loads → AtMost 15 (map highest spans) → ((k : ℕ) → get_or loads k 0 ≡ 0 → get_or (map highest spans) k 0 ≡ 0) → All Sound (reaches loads spans)
+sound_all : (loads : List ℕ) (spans : List Span) → length spans ≡ length loads → AtMost 15 (map highest spans)
+    → ((k : ℕ) → get_or loads k 0 ≡ 0 → get_or (map highest spans) k 0 ≡ 0) → All Sound (reaches loads spans)
 unfolding zip_with
 sound_all [] [] e w a = All-nil Sound
 sound_all [] (s ∷ spans) e w a = absurd (omega arith)
@@ -75,13 +76,15 @@ sound_all (load ∷ loads) (s ∷ spans) e w a =
     (record { ordered = span_ordered s; window = w 0; absent = a 0 })
     (sound_all loads spans (omega arith) (λ k. w (suc k)) (λ k. a (suc k)))
 
-pub leaf_ends : (routes : List Route) (windows loads : List ℕ) (c : ℕ) → length windows ≤ 8 → length loads ≡ length windows → AtMost 15 windows → by_number routes c [] ≡ map visit loads → LeafEnds (reaches loads (spans_at routes windows (leaf c)))
+pub leaf_ends : (routes : List Route) (windows loads : List ℕ) (c : ℕ) → length windows ≤ 8 → length loads ≡ length windows → AtMost 15 windows
+    → by_number routes c [] ≡ map visit loads → LeafEnds (reaches loads (spans_at routes windows (leaf c)))
 unfolding spans_at coverages visits by_number visit
 leaf_ends routes windows loads c few same low route =
     let long = spans_length cover 1 windows ∙ sym same in
     record {
       few = omega (arith, reaches-length loads (spans_from cover 1 windows) long);
-      sound = sound_all loads (spans_from cover 1 windows) long (λ k. le_trans (spans_low cover 1 windows k) (low k)) (λ k e. spans_absent cover 1 windows k (leaf-absent routes c (1 + k) (unvisited k e)));
+      sound = sound_all loads (spans_from cover 1 windows) long (λ k. le_trans (spans_low cover 1 windows k) (low k))
+          (λ k e. spans_absent cover 1 windows k (leaf-absent routes c (1 + k) (unvisited k e)));
     }
   where
     cover : ℕ → Coverage

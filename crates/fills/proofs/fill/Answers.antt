@@ -23,7 +23,8 @@ pub loop-n-preserved : goal.loop-n-preserved
 loop-n-preserved c =
     let p = c.requires.prepared in
     let h = among_first _ c.args.windows _ p c.loop-n-test.true (omega arith) in
-    written_turn _ c.args.windows _ p h c.loop-n.invariant c.requires.room (rw (first_at _ c.args.windows _ p c.loop-n-test.true (omega arith)) at c.write_node.ensures) (search rules)
+    written_turn _ c.args.windows _ p h c.loop-n.invariant c.requires.room
+    (rw (first_at _ c.args.windows _ p c.loop-n-test.true (omega arith)) at c.write_node.ensures) (search rules)
 
 pub returns : goal.returns
 returns c = written_last _ c.args.windows _ c.requires.prepared c.loop-n.invariant (past_first _ c.args.windows _ c.requires.prepared c.loop-n-test.false)

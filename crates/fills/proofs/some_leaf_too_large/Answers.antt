@@ -15,7 +15,8 @@ use Rattle.fills.proofs.some_leaf_too_large.Goals as goal
 
 pub any-requires-clause-callable : goal.any-requires-clause-callable
 any-requires-clause-callable c =
-    serves_from_places (YieldsList-from_slice (take c.args.t.count c.args.t.nodes) cc) (λ x q k. search rules) (λ x k l e _ _ _ _ _ _. item_ready _ c.args.windows _ c.requires l e)
+    serves_from_places (YieldsList-from_slice (take c.args.t.count c.args.t.nodes) cc) (λ x q k. search rules)
+    (λ x k l e _ _ _ _ _ _. item_ready _ c.args.windows _ c.requires l e)
 
 pub returns : goal.returns
 returns c =

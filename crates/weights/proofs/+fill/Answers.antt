@@ -5,7 +5,7 @@ use mathlib.Core.Path.{◌≡◌, refl, sym, ap}
 use native.Mathlib.Omega.{arith}
 use lib.ListN.{length}
 use borrow.Author.Tests.{eqb-true}
-use Rattle.weights.proofs.FillLaws.{one_cell, last_filled, high_small, start_low, in_table, filling_start, filling_more, filling_stored, filling_end, product_low, deeper, cell_inside}
+use Rattle.weights.proofs.FillLaws.{one_cell, last_filled, start_low, filling_start, filling_more, filling_stored, filling_end, product_low, deeper, cell_inside}
 use Rattle.weights.proofs.+fill.Goals as goal
 use Rattle.weights.proofs.+fill.Goals.{then-is_empty, else-is_empty}
 
@@ -22,17 +22,8 @@ returns-in-None-clause-written t c =
 pub exact_power-power-requires : goal.exact_power-power-requires
 exact_power-power-requires t c = start_low c.in-Some.ensures.cases.0 c.requires
 
-pub overflow_add-i-end : goal.overflow_add-i-end
-overflow_add-i-end t c = omega (arith, high_small c.in-Some.ensures.cases.0 c.requires)
-
 pub loop-i-init : goal.loop-i-init
 loop-i-init t c = filling_start _ _ _ _ _ _ _ c.exact_power-power.ensures
-
-pub overflow_add-before : goal.overflow_add-before
-overflow_add-before t c = omega (arith, in_table c.in-Some.ensures.cases.0 c.requires c.loop-i-test.true)
-
-pub binomial-requires : goal.binomial-requires
-binomial-requires t c = in_table c.in-Some.ensures.cases.0 c.requires c.loop-i-test.true
 
 pub overflow_mul-cell : goal.overflow_mul-cell
 overflow_mul-cell t c = record { fits = product_low c.in-Some.ensures.cases.0 c.requires c.loop-i.invariant c.loop-i-test.true c.binomial.ensures }
@@ -53,8 +44,10 @@ overflow_add-next t c =
     omega (arith, cell_inside c.in-Some.ensures.cases.0 c.requires c.loop-i.invariant c.loop-i-test.true c.binomial.ensures c.loop-i.auto.out none)
 
 pub fill-next-requires : goal.fill-next-requires
-fill-next-requires t c =
-    (omega (arith, c.in-Some.ensures.cases.1), deeper c.in-Some.ensures.cases.0 c.requires c.loop-i.invariant c.loop-i-test.true c.binomial.ensures c.loop-i.auto.out)
+fill-next-requires t c = (
+  omega (arith, c.in-Some.ensures.cases.1),
+  deeper c.in-Some.ensures.cases.0 c.requires c.loop-i.invariant c.loop-i-test.true c.binomial.ensures c.loop-i.auto.out,
+)
 
 pub loop-i-preserved : goal.loop-i-preserved
 loop-i-preserved t c =
@@ -62,10 +55,12 @@ loop-i-preserved t c =
       | then-is_empty w ↦
           let none : length c.in-Some.later.now ≡ 0 = eqb-true _ _ (sym w.if-is_empty.ensures) in
           let inside = cell_inside c.in-Some.ensures.cases.0 c.requires c.loop-i.invariant c.loop-i-test.true c.binomial.ensures c.loop-i.auto.out none in
-          rw (w.next-is, w.out-is) (filling_stored c.in-Some.ensures.cases.0 c.requires c.loop-i.invariant c.loop-i-test.true c.binomial.ensures refl none inside refl)
+          rw (w.next-is, w.out-is)
+          (filling_stored c.in-Some.ensures.cases.0 c.requires c.loop-i.invariant c.loop-i-test.true c.binomial.ensures refl none inside refl)
       | else-is_empty w ↦
           rw (w.next-is, w.out-is)
-          (filling_more c.in-Some.ensures.cases.0 c.requires c.loop-i.invariant c.loop-i-test.true c.binomial.ensures w.fill-next.ensures.next_place w.fill-next.ensures.written refl)
+          (filling_more c.in-Some.ensures.cases.0 c.requires c.loop-i.invariant c.loop-i-test.true c.binomial.ensures
+          w.fill-next.ensures.next_place w.fill-next.ensures.written refl)
     ]
 
 pub returns-after-loop-i-clause-next_place : goal.returns-after-loop-i-clause-next_place

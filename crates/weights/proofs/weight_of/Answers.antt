@@ -21,7 +21,8 @@ returns-in_err-acc c =
     let h : c.loop-chain.chain-index < length (loads_of c.args.chains.now) = omega (arith, length-map c.args.chains.now (λ r. r.load)) in
     let el = get_or-map_in (λ r. r.load) c.args.chains.now c.loop-chain.chain-index 0 absent c.loop-chain-test.true in
     let en = get_or-map_in (λ r. r.high) c.args.chains.now c.loop-chain.chain-index 0 absent c.loop-chain-test.true in
-    c.from_residual.ensures ∙ sym (part_large _ _ c.requires.on_route _ _ _ c.loop-chain.invariant.reached h el en (sym c.times_chain.ensures ∙ c.in_err-acc.was))
+    c.from_residual.ensures ∙ sym (part_large _ _ c.requires.on_route _ _ _ c.loop-chain.invariant.reached h el en (sym c.times_chain.ensures
+    ∙ c.in_err-acc.was))
 
 pub loop-chain-preserved : goal.loop-chain-preserved
 loop-chain-preserved c =

@@ -8,4 +8,5 @@ fill-requires c = kept_to_fill c.requires.leaf_ends c.those_present-present.ensu
 
 pub returns : goal.returns
 returns c =
-    kept_filled c.requires.leaf_ends c.those_present-present.ensures c.args.out.now _ _ (omega (arith, c.fill.auto.out, c.requires.room)) c.fill.ensures.next_place c.fill.ensures.written
+    kept_filled c.requires.leaf_ends c.those_present-present.ensures c.args.out.now _ _
+    (omega (arith, c.fill.auto.out, c.requires.room)) c.fill.ensures.next_place c.fill.ensures.written

@@ -13,4 +13,5 @@ write_cells-requires-clause-none_large c = ap (some too_large) (part_cells _ _ _
 
 pub returns : goal.returns
 returns c =
-    put_part c.args.n.now.base c.args.n.now.cells c.args.area.now (c.write_cells.ensures ∙ part_cells _ _ _ c.requires.leaf _ c.reaches-chains.ensures) (length_cells _ _ _ c.requires.leaf)
+    put_part c.args.n.now.base c.args.n.now.cells c.args.area.now (c.write_cells.ensures
+    ∙ part_cells _ _ _ c.requires.leaf _ c.reaches-chains.ensures) (length_cells _ _ _ c.requires.leaf)
