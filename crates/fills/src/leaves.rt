@@ -29,7 +29,7 @@ fn reaches(loads: &[u64], ch: &Chains, n: &Node) -> [Reach; 8]
     ensures { take ch.now.count result ≡ reaches_of (loads_in loads.now ch.now n.now) (spans_in ch.now n.now) }
 {
     let first = (n.centre - 1) * 8;
-    let mut chains = [reach(0, Cover::Absent, 0); 8];
+    let mut chains = [Reach::default(); 8];
     for k in 0..ch.count {
         let cover = coverage(n.counts[k], ch.totals[k]);
         chains[k] = reach(loads[first + k], cover, ch.windows[k]);

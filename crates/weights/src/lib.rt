@@ -14,7 +14,7 @@ ghost use Rattle.weights.specs.Present.{Kept};
 use binomials::binomial;
 
 // What a chain has at a leaf: its load there, and the lowest and the highest value of its index.
-#[derive(Clone, Copy)]
+#[derive(Clone, Copy, Default)]
 pub struct Reach {
     pub load: u64,
     pub low: usize,
@@ -113,12 +113,7 @@ fn those_present(chains: &[Reach]) -> Present
     requires { length chains.now ≤ 8 }
     ensures { Kept chains.now result.count result.chains }
 {
-    let absent = Reach {
-        load: 0,
-        low: 0,
-        high: 0,
-    };
-    let mut kept = [absent; 8];
+    let mut kept = [Reach::default(); 8];
     let mut count: usize = 0;
     for chain in chains {
         if 0 < chain.high {
