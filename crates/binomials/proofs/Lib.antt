@@ -1,3 +1,2 @@
 pub mod PascalLaws
 pub mod Entries
-pub mod RowsLaws

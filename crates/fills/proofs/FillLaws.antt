@@ -1,49 +1,17 @@
 -- The loops over the nodes, by what each node gives: after i nodes the area holds their cells, one after the other, and then what it held
 -- before; and no cell of theirs has passed the test.
-use Prim.Native.Nat.{ℕ, zero, suc, ◌+◌, ◌≤◌, ◌<◌}
+use Prim.Native.Nat.{ℕ, ◌+◌, ◌≤◌, ◌<◌}
 use mathlib.Core.Path.{◌≡◌, refl, sym, ap, ◌∙◌}
 use mathlib.Core.Bool.{Bool, true, false, true≢false, ◌||◌}
 use mathlib.Core.List.{List, [], ◌∷◌, ◌++◌, flat_map, append_assoc, append-nil}
 use native.Mathlib.Omega.{arith}
 use native.Mathlib.Numerals.{add-one}
-use lib.ListN.{length, get_or, take, drop, set, replicate, length-append, length-drop, length-replicate}
-use lib.Seq.{take-suc, drop-cons, set_at, get_or-take, length-take-le, drop-length, take-append_seam, drop-append-add, drop-drop}
+use lib.ListN.{length, get_or, take, drop, length-append}
+use lib.Seq.{take-suc, get_or-take, length-take-le, take-append_seam, drop-append-add, drop-drop}
 use Rattle.sums.specs.Lists.{some}
 use Rattle.sums.proofs.ListLaws.{flat_append, flat_in, get_or_in}
 use Rattle.sums.proofs.BoolLaws.{some_is, some_of, some-append}
 use Rattle.fills.specs.Nodes.{put}
-
--- ---- cells set to 0, one after the other
-
-pub record Cleared (old now : List ℕ) (i : ℕ) : Type 0 where
-  pub low : i ≤ length old
-  pub is : now ≡ replicate i 0 ++ drop i old
-  pub long : length now ≡ length old
-
-pub cleared_first : (old : List ℕ) → Cleared old old 0
-cleared_first old = record { low = omega arith; is = refl; long = refl }
-
-pub cleared_turn : {old now : List ℕ} {i : ℕ} → Cleared old now i → i < length now → Cleared old (set now i 0) (i + 1)
-cleared_turn {old} {now} {i} w h =
-    let l : i < length old = omega (arith, w.long) in
-    let next : set now i 0 ≡ replicate (i + 1) 0 ++ drop (i + 1) old =
-    ap (λ l. set l i 0) (w.is ∙ ap (λ l. replicate i 0 ++ l) (drop-cons old i 0 l))
-    ∙ set_at (replicate i 0) (get_or old i 0) (drop (suc i) old) 0 i (length-replicate i 0)
-    ∙ more i (drop (suc i) old)
-    ∙ ap (λ n. replicate n 0 ++ drop n old) (sym (add-one i)) in
-    record { low = omega arith; is = next; long = ap length next ∙ size (i + 1) (omega arith) }
-  where
-    more : (i : ℕ) (l : List ℕ) → replicate i 0 ++ (0 ∷ l) ≡ replicate (suc i) 0 ++ l
-    more zero l = refl
-    more (suc i) l = ap (λ x. 0 ∷ x) (more i l)
-
-    size : (n : ℕ) → n ≤ length old → length (replicate n 0 ++ drop n old) ≡ length old
-    size n k = length-append (replicate n 0) (drop n old) ∙ omega (arith, length-replicate {A = ℕ} n 0, length-drop n old)
-
-pub cleared_last : {old now : List ℕ} {i : ℕ} → Cleared old now i → length now ≤ i → now ≡ replicate (length old) 0
-cleared_last {old} {now} {i} w h =
-    let e : i ≡ length old = omega (arith, w.long, w.low) in
-    w.is ∙ ap (λ n. replicate n 0 ++ drop n old) e ∙ ap (λ l. replicate (length old) 0 ++ l) (drop-length old) ∙ append-nil (replicate (length old) 0)
 
 -- ---- node after node
 
@@ -62,7 +30,8 @@ module _ {A : Type 0} (g : A → List ℕ) (nodes : List A) (d : A) where
     unfolding some flat_map
     none_first = refl
 
-    pub none_more : (i : ℕ) → i < length nodes → some test (cells_to i) ≡ false → some test (g (get_or nodes i d)) ≡ false → some test (cells_to (i + 1)) ≡ false
+    pub none_more : (i : ℕ) → i < length nodes → some test (cells_to i) ≡ false → some test (g (get_or nodes i d)) ≡ false
+        → some test (cells_to (i + 1)) ≡ false
     none_more i h a b = ap (some test) (to_more i h) ∙ some-append test (cells_to i) (g (get_or nodes i d)) ∙ (λ j. a j || b j)
 
     module _ (n i : ℕ) (k : n ≤ length nodes) (h : i < n) where
@@ -87,7 +56,8 @@ module _ {A : Type 0} (g : A → List ℕ) (nodes : List A) (d : A) where
   unfolding flat_map
   filled_first old = record { is = refl }
 
-  pub filled_turn : {old now next : List ℕ} {i at : ℕ} → i < length nodes → at ≡ length (cells_to i) → Filled old now i → next ≡ put at (g (get_or nodes i d)) now → Filled old next (i + 1)
+  pub filled_turn : {old now next : List ℕ} {i at : ℕ} → i < length nodes → at ≡ length (cells_to i) → Filled old now i
+      → next ≡ put at (g (get_or nodes i d)) now → Filled old next (i + 1)
   unfolding put
   filled_turn {old} {now} {next} {i} {at} h ea w e =
       let P = cells_to i in
@@ -97,7 +67,8 @@ module _ {A : Type 0} (g : A → List ℕ) (nodes : List A) (d : A) where
       record {
         is =
             e ∙ (λ j. put (ea j) X (w.is j))
-            ∙ (λ j. take-append_seam P (drop (length P) old) j ++ (X ++ (drop-append-add P (drop (length P) old) (length X) ∙ drop-drop (length X) (length P) old ∙ ap (λ n. drop n old) k) j))
+            ∙ (λ j. take-append_seam P (drop (length P) old) j ++
+            (X ++ (drop-append-add P (drop (length P) old) (length X) ∙ drop-drop (length X) (length P) old ∙ ap (λ n. drop n old) k) j))
             ∙ sym (append_assoc P X (drop (length (P ++ X)) old))
             ∙ ap (λ l. l ++ drop (length l) old) (sym m);
       }

@@ -34,5 +34,7 @@ module _ (loads : List ℕ) (ch : Chains) (n : Node) where
       zeros (suc k) = zeros k
 
   -- a join's part cleared, and put back
-  pub join_put : (area : List ℕ) {own : List ℕ} {long : ℕ} → n.centre ≡ 0 → own ≡ replicate long 0 → long ≡ n.cells → put_mid n.base (n.base + n.cells - n.base) area own ≡ put n.base (node_cells loads ch n) area
-  join_put area e eo el = put_part n.base n.cells area (eo ∙ ap (λ k. replicate k 0) el ∙ sym (join_cells e)) (ap length (join_cells e) ∙ length-replicate n.cells 0)
+  pub join_put : (area : List ℕ) {own : List ℕ} {long : ℕ} → n.centre ≡ 0 → own ≡ replicate long 0 → long ≡ n.cells
+      → put_mid n.base (n.base + n.cells - n.base) area own ≡ put n.base (node_cells loads ch n) area
+  join_put area e eo el = put_part n.base n.cells area (eo ∙ ap (λ k. replicate k 0) el ∙ sym (join_cells e)) (ap length (join_cells e)
+      ∙ length-replicate n.cells 0)

@@ -50,7 +50,9 @@ module _ (m : Model) (windows : List ℕ) (t : Table) (p : Prepared m windows t)
 
   module _ (x : Tree) (rest : List ℕ) (parted : Parted routes (under x) rest) where
     spans_at_lem : spans_by t.totals windows (counts_at routes ws x) 0 m.chains ≡ spans_at routes ws x
-    spans_at_lem = spans_are routes ws ch (sym (length_windows p)) p.tabled.totals_are (take_is windows (length ws) (omega (arith, length_windows p, p.windows_long, p.guaranteed.chains_range)) ∙ ap (λ n. take n windows) (length_windows p)) x rest parted
+    spans_at_lem = spans_are routes ws ch (sym (length_windows p)) p.tabled.totals_are
+        (take_is windows (length ws) (omega (arith, length_windows p, p.windows_long, p.guaranteed.chains_range))
+        ∙ ap (λ n. take n windows) (length_windows p)) x rest parted
 
   module _ (c : ℕ) (rest : List ℕ) (parted : Parted routes (under (leaf c)) rest) where
     in_range : (1 ≤ c) × (c ≤ m.centres)
@@ -62,7 +64,8 @@ module _ (m : Model) (windows : List ℕ) (t : Table) (p : Prepared m windows t)
       few = few p;
       centre_range = (in_range.0, omega (arith, in_range, p.guaranteed.centres_range));
       loads_long = p.guaranteed.loads_long;
-      ends = rw (spans_at_lem (leaf c) rest parted) (leaf_ends routes ws (loads_of m c) c (omega (arith, length_windows p, p.guaranteed.chains_range)) (long c in_range ∙ sym (length_windows p)) low (route_at m p.guaranteed c in_range.0 in_range.1));
+      ends = rw (spans_at_lem (leaf c) rest parted) (leaf_ends routes ws (loads_of m c) c (omega (arith, length_windows p, p.guaranteed.chains_range))
+          (long c in_range ∙ sym (length_windows p)) low (route_at m p.guaranteed c in_range.0 in_range.1));
       cells_are = ap cells (sym (spans_at_lem (leaf c) rest parted));
     }
       where
@@ -82,14 +85,17 @@ module _ (m : Model) (windows : List ℕ) (t : Table) (p : Prepared m windows t)
 
   module _ (start : ℕ) where
     -- a node's cells are its array
-    node_cells_lem : (x : Tree) (rest : List ℕ) → Parted routes (under x) rest → node_cells m.loads ch (entry routes ws x start) ≡ array_of routes ws (start_cell (centres_of m)) (x, start)
+    node_cells_lem : (x : Tree) (rest : List ℕ) → Parted routes (under x) rest
+        → node_cells m.loads ch (entry routes ws x start) ≡ array_of routes ws (start_cell (centres_of m)) (x, start)
     unfolding node_cells entry centre_at start_cell cells_by
     node_cells_lem (leaf c) rest parted = leaf_is c (in_range c rest parted).0 ∙ leaf_cells_lem c rest parted start
       where
-        leaf_is : (c : ℕ) → 1 ≤ c → cells_by c (replicate (cells (spans_at routes ws (leaf c))) 0) (leaf_cells m.loads ch (entry routes ws (leaf c) start)) ≡ leaf_cells m.loads ch (entry routes ws (leaf c) start)
+        leaf_is : (c : ℕ) → 1 ≤ c → cells_by c (replicate (cells (spans_at routes ws (leaf c))) 0) (leaf_cells m.loads ch (entry routes ws (leaf c) start))
+            ≡ leaf_cells m.loads ch (entry routes ws (leaf c) start)
         leaf_is zero h = absurd (omega arith)
         leaf_is (suc c) h = refl
-    node_cells_lem (join l r) rest parted = sym (map-zero (indices (spans_at routes ws (join l r))) ∙ ap (λ n. replicate n 0) (length-indices (spans_at routes ws (join l r))))
+    node_cells_lem (join l r) rest parted = sym (map-zero (indices (spans_at routes ws (join l r)))
+        ∙ ap (λ n. replicate n 0) (length-indices (spans_at routes ws (join l r))))
 
     node_in : (x : Tree) (rest : List ℕ) → Parted routes (under x) rest → NodeIn m.loads ch (entry routes ws x start)
     unfolding entry centre_at
@@ -105,7 +111,8 @@ module _ (m : Model) (windows : List ℕ) (t : Table) (p : Prepared m windows t)
   count_low = omega (arith, p.tabled.nodes_long, count_few p)
 
   -- the cells of the first i nodes
-  cells_to : (i : ℕ) → i ≤ t.count → flat_map (node_cells m.loads ch) (take i t.nodes) ≡ flat_map (array_of routes ws (start_cell (centres_of m))) (take i nodes)
+  cells_to : (i : ℕ) → i ≤ t.count → flat_map (node_cells m.loads ch) (take i t.nodes)
+      ≡ flat_map (array_of routes ws (start_cell (centres_of m))) (take i nodes)
   cells_to i h =
       ap (flat_map (node_cells m.loads ch)) (sym (take-take i t.count t.nodes h) ∙ ap (take i) (nodes_are p) ∙ take-map (entry_of routes ws) i nodes)
       ∙ flat_map-map (node_cells m.loads ch) (entry_of routes ws) (take i nodes)

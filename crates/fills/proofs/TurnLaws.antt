@@ -1,10 +1,16 @@
 -- The two loops over the nodes of a prepared run, turn by turn: which cells the nodes passed have, and what is known of the next one.
-use Prim.Native.Nat.{ℕ, ◌+◌, ◌≤◌, ◌<◌}
-use mathlib.Core.Path.{◌≡◌, refl, sym, ap, ◌∙◌}
+use Prim.Native.Nat.{ℕ, zero, suc, ◌+◌, ◌≤◌, ◌<◌}
+use mathlib.Core.Path.{◌≡◌, refl, sym, ap, subst, ◌∙◌}
 use mathlib.Core.Bool.{Bool, true, false}
 use mathlib.Core.List.{List, ◌++◌}
+use native.Mathlib.Nat.{le_refl}
 use native.Mathlib.Omega.{arith}
-use lib.ListN.{length, get_or, drop}
+use lib.ListN.{length, get_or, take, drop}
+use lib.Seq.{length-take-le, get_or-take}
+use native.Mathlib.Numerals.{add-one}
+use Rattle.std.specs.Bool.{MatchBool}
+use Rattle.std.specs.List.{AllWithin, HoldsAt}
+use Rattle.std.proofs.lemmas.List.{get_or_default}
 use Rattle.sums.specs.Lists.{some}
 use Rattle.network.specs.Cells.{start_cell, filled}
 use Rattle.network.proofs.AreaLaws.{length-spread}
@@ -18,9 +24,9 @@ use Rattle.plan.specs.Asking.{Prepared, chains_of}
 use Rattle.plan.specs.declared.Chains.{Chains}
 use Rattle.plan.specs.declared.Node.{Node}
 use Rattle.plan.specs.declared.Table.{Table}
-use Rattle.fills.specs.Nodes.{node_cells, put}
+use Rattle.fills.specs.Nodes.{node_cells, put, NodeIn}
 use Rattle.fills.proofs.FillLaws.{cells_to, none_first, none_more, some_found, none_at, Filled, filled_first, filled_turn}
-use Rattle.fills.proofs.PreparedLaws.{count_low, filled_is, node_base, node_room}
+use Rattle.fills.proofs.PreparedLaws.{count_low, filled_is, node_ready, node_base, node_room}
 
 abbrev pub node_at : Table → ℕ → Node
 node_at t i = get_or t.nodes i no_node
@@ -30,19 +36,11 @@ module _ (loads : List ℕ) (ch : Chains) (t : Table) where
   abbrev first_cells : ℕ → List ℕ
   first_cells i = cells_to (node_cells loads ch) t.nodes no_node i
 
-  -- none of them is too large
-  pub record Passed (i : ℕ) : Type 0 where
-    pub low : i ≤ t.count
-    pub none : some too_large (first_cells i) ≡ false
-
   -- they are written
   pub record Written (old now : List ℕ) (i : ℕ) : Type 0 where
     pub low : i ≤ t.count
     pub filled : Filled (node_cells loads ch) t.nodes no_node old now i
     pub long : length now ≡ length old
-
-  pub passed_first : Passed 0
-  passed_first = record { low = omega arith; none = none_first (node_cells loads ch) t.nodes no_node too_large }
 
   pub written_first : (old : List ℕ) → Written old old 0
   written_first old = record { low = omega arith; filled = filled_first (node_cells loads ch) t.nodes no_node old; long = refl }
@@ -61,26 +59,60 @@ module _ (m : Model) (windows : List ℕ) (t : Table) (p : Prepared m windows t)
   unfolding filled
   length_whole = length-spread (routes_in m) (windows_in m windows) (start_cell (centres_of m)) (tree_of m)
 
-  pub passed_last : {i : ℕ} → Passed m.loads ch t i → t.count ≤ i → false ≡ some too_large whole
-  passed_last {i} w h =
-      let e : i ≡ t.count = omega (arith, w.low) in
-      sym (ap (some too_large) (sym (filled_is m windows t p)) ∙ ap (λ n. some too_large (first_cells m.loads ch t n)) (sym e) ∙ w.none)
-
   pub written_last : {old now : List ℕ} {i : ℕ} → Written m.loads ch t old now i → t.count ≤ i → now ≡ whole ++ drop (cells_in m (windows_in m windows)) old
   written_last {old} {now} {i} w h =
       let e : i ≡ t.count = omega (arith, w.low) in
       let f = ap (first_cells m.loads ch t) e ∙ filled_is m windows t p in
       w.filled.is ∙ ap (λ l. l ++ drop (length l) old) f ∙ ap (λ n. whole ++ drop n old) length_whole
 
+  -- the nodes passed over: the first n
+  first_nodes : {n : ℕ} → n ≤ t.count → length (take n t.nodes) ≡ n
+  first_nodes {n} l = length-take-le n t.nodes (omega (arith, count_low m windows t p))
+
+  pub among_first : {n i : ℕ} → i < length (take n t.nodes) → n ≤ t.count → i < t.count
+  among_first h l = omega (arith, first_nodes l)
+
+  pub first_at : {n i : ℕ} → i < length (take n t.nodes) → n ≤ t.count → get_or (take n t.nodes) i no_node ≡ node_at t i
+  first_at {n} {i} h l = get_or-take n t.nodes i no_node (omega (arith, first_nodes l))
+
+  pub past_first : {i : ℕ} → length (take t.count t.nodes) ≤ i → t.count ≤ i
+  past_first h = omega (arith, first_nodes (le_refl t.count))
+
+  -- each of them, as it is found there
+  pub item_ready : {x : Node} {k : ℕ} → k < length (take t.count t.nodes) → x ≡ get_or (take t.count t.nodes) k x → NodeIn m.loads ch x
+  item_ready {x} {k} h e =
+      let l = among_first h (le_refl t.count) in
+      let d : x ≡ node_at t k = e ∙ get_or_default (take t.count t.nodes) k x no_node h ∙ first_at h (le_refl t.count) in
+      subst (NodeIn m.loads ch) (sym d) (node_ready m windows t p k l)
+
+  -- the nodes passed over, and what the question asks of each
+  abbrev passed : List Node
+  passed = take t.count t.nodes
+
+  abbrev Large : Node → Type 0
+  Large x = some too_large (cells_of x) ≡ true
+
+  abbrev Low : Node → Type 0
+  Low x = some too_large (cells_of x) ≡ false
+
+  none_in : (n : ℕ) → n ≤ t.count → AllWithin Low passed 0 (length passed) → some too_large (first_cells m.loads ch t n) ≡ false
+  none_in zero l h = none_first cells_of t.nodes no_node too_large
+  none_in (suc n) l h =
+      let k : n < length t.nodes = omega (arith, count_low m windows t p) in
+      let i : n < length passed = omega (arith, first_nodes (le_refl t.count)) in
+      let e : some too_large (cells_of (node_at t n)) ≡ false = rw (first_at i (le_refl t.count)) at (h n no_node (omega arith) i) in
+      rw (← add-one n) (none_more cells_of t.nodes no_node too_large n k (none_in n (omega arith) h) e)
+
+  pub any_is : (b : Bool) → MatchBool b ((k : ℕ) × (k < length passed) × HoldsAt Large passed k) (AllWithin Low passed 0 (length passed)) → b ≡ some too_large whole
+  any_is true r =
+      let h = among_first r.1 (le_refl t.count) in
+      let e : some too_large (cells_of (node_at t r.0)) ≡ true = rw (first_at r.1 (le_refl t.count)) at (r.2 no_node) in
+      sym (ap (some too_large) (sym (filled_is m windows t p)) ∙ some_found cells_of t.nodes no_node too_large t.count r.0 (count_low m windows t p) h e)
+  any_is false h = sym (ap (some too_large) (sym (filled_is m windows t p)) ∙ none_in t.count (le_refl t.count) h)
+
   module _ {i : ℕ} (h : i < t.count) where
     pub inside : i < length t.nodes
     inside = omega (arith, count_low m windows t p)
-
-    pub passed_turn : {r : Bool} → Passed m.loads ch t i → r ≡ some too_large (cells_of (node_at t i)) → r ≡ false → Passed m.loads ch t (i + 1)
-    passed_turn w e f = record { low = omega arith; none = none_more cells_of t.nodes no_node too_large i inside w.none (sym e ∙ f) }
-
-    pub passed_found : {r : Bool} → r ≡ some too_large (cells_of (node_at t i)) → r ≡ true → true ≡ some too_large whole
-    passed_found e f = sym (ap (some too_large) (sym (filled_is m windows t p)) ∙ some_found cells_of t.nodes no_node too_large t.count i (count_low m windows t p) h (sym e ∙ f))
 
     pub next_low : some too_large whole ≡ false → some too_large (cells_of (node_at t i)) ≡ false
     next_low e = none_at cells_of t.nodes no_node too_large t.count i (count_low m windows t p) h (ap (some too_large) (filled_is m windows t p) ∙ e)
@@ -89,5 +121,11 @@ module _ (m : Model) (windows : List ℕ) (t : Table) (p : Prepared m windows t)
       pub next_room : (node_at t i).base + (node_at t i).cells ≤ length now
       next_room = omega (arith, node_room m windows t p i h, w.long)
 
-      pub written_turn : {next : List ℕ} → next ≡ put (node_at t i).base (cells_of (node_at t i)) now → length next ≡ length now → Written m.loads ch t old next (i + 1)
-      written_turn e l = record { low = omega arith; filled = filled_turn cells_of t.nodes no_node inside (node_base m windows t p i h) w.filled e; long = l ∙ w.long }
+      pub written_turn : {next : List ℕ} → next ≡ put (node_at t i).base (cells_of (node_at t i)) now → length next ≡ length now
+          → Written m.loads ch t old next (i + 1)
+      written_turn e l = record {
+        low = omega arith;
+        filled = filled_turn cells_of t.nodes no_node inside (node_base m windows t p i h) w.filled e;
+        long =
+            l ∙ w.long;
+      }

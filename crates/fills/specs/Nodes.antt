@@ -3,12 +3,10 @@ use Rattle.std.specs.Prelude.{ℕ, zero, suc, ◌+◌, ◌-◌, ◌*◌, ◌≤�
 use Rattle.network.specs.Cells.{Span, span, cells, indices}
 use Rattle.network.specs.Weight.{weight}
 use Rattle.network.proofs.CoverageLaws.{coverage_by_count}
-use Rattle.weights.specs.Leaf.{lowest, highest, LeafEnds}
-use Rattle.plan.specs.Table.{row}
+use Rattle.weights.specs.Leaf.{reaches, LeafEnds}
 use Rattle.plan.specs.Steps.{Few, spans_by}
 use Rattle.plan.specs.declared.Chains.{Chains}
 use Rattle.plan.specs.declared.Node.{Node}
-use Rattle.fills.specs.declared.leaves.Ends.{Ends}
 
 -- a chain's span at a node, by counting; and all of them
 abbrev pub span_at : Chains → List ℕ → ℕ → Span
@@ -16,9 +14,6 @@ span_at ch counts k = span (coverage_by_count (get_or counts k 0) (get_or ch.tot
 
 abbrev pub spans_in : Chains → Node → List Span
 spans_in ch n = spans_by ch.totals ch.windows n.counts 0 ch.count
-
-unfoldable pub ends_by : Chains → List ℕ → Ends
-ends_by ch counts = record { lows = row ch.count (λ k. lowest (span_at ch counts k)); highs = row ch.count (λ k. highest (span_at ch counts k)) }
 
 -- the loads of a leaf's centre, one a chain
 abbrev pub loads_in : List ℕ → Chains → Node → List ℕ
@@ -44,7 +39,7 @@ pub record LeafIn (loads : List ℕ) (ch : Chains) (n : Node) : Type 0 where
   pub few : Few ch
   pub centre_range : (1 ≤ n.centre) × (n.centre ≤ 16)
   pub loads_long : length loads ≡ 128
-  pub ends : LeafEnds (loads_in loads ch n) (map lowest (spans_in ch n)) (map highest (spans_in ch n))
+  pub ends : LeafEnds (reaches (loads_in loads ch n) (spans_in ch n))
   pub cells_are : n.cells ≡ cells (spans_in ch n)
 
 -- any node: a join needs nothing more than room

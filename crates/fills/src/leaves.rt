@@ -1,94 +1,58 @@
-// The cells of one leaf: the ends of its chains' indices, whether a weight is too large, and the weights written into its part of the area.
-ghost use Rattle.std.specs.Prelude.{◌≡◌, false, ◌+◌, ◌≤◌, length};
+// The cells of one leaf: what each chain has there, whether a weight is too large, and the weights written into its part of the area.
+ghost use Rattle.std.specs.Prelude.{◌≡◌, false, ◌+◌, ◌≤◌, length, take};
 ghost use Rattle.sums.specs.Lists.{some};
 ghost use Rattle.network.specs.Cells.{span};
 ghost use Rattle.calls.specs.Start.{too_large};
-ghost use Rattle.binomials.specs.Rows.{rows as rows_of};
-ghost use Rattle.weights.specs.Leaf.{lowest, highest};
-ghost use Rattle.plan.specs.Steps.{covering, Few};
-ghost use Rattle.fills.specs.Nodes.{ends_by, leaf_cells, put, LeafIn};
+ghost use Rattle.weights.specs.Leaf.{reach_by, reaches as reaches_of};
+ghost use Rattle.plan.specs.Steps.{covering};
+ghost use Rattle.fills.specs.Nodes.{loads_in, spans_in, leaf_cells, put, LeafIn};
 
+use plan::coverage::coverage;
 use plan::{Chains, Cover, Node};
+use weights::Reach;
 
-// The lowest and the highest index of each chain at a node.
-#[derive(Clone, Copy)]
-pub struct Ends {
-    pub lows: [usize; 8],
-    pub highs: [usize; 8],
+#[tactic(auto, unfolding(weights::specs::Leaf::lowest, weights::specs::Leaf::highest, network::specs::Cells::span, plan::specs::Steps::covering))]
+fn reach(load: u64, cover: Cover, window: usize) -> Reach
+    ensures { result ≡ reach_by load (span (covering cover) window) }
+{
+    let (low, high) = match cover {
+        Cover::Finished => (window, window),
+        Cover::Partial => (0, window),
+        Cover::Absent => (0, 0),
+    };
+    Reach { load, low, high }
 }
 
-fn low_end(c: Cover, window: usize) -> usize
-    ensures { result ≡ lowest (span (covering c) window) }
+// The chains of a leaf; past their number the entries are unused.
+fn reaches(loads: &[u64], ch: &Chains, n: &Node) -> [Reach; 8]
+    requires { LeafIn loads.now ch.now n.now }
+    ensures { take ch.now.count result ≡ reaches_of (loads_in loads.now ch.now n.now) (spans_in ch.now n.now) }
 {
-    match c {
-        Cover::Finished => window,
-        Cover::Partial => 0,
-        Cover::Absent => 0,
+    let first = (n.centre - 1) * 8;
+    let mut chains = [Reach::default(); 8];
+    for k in 0..ch.count {
+        let cover = coverage(n.counts[k], ch.totals[k]);
+        chains[k] = reach(loads[first + k], cover, ch.windows[k]);
     }
+    chains
 }
 
-fn high_end(c: Cover, window: usize) -> usize
-    ensures { result ≡ highest (span (covering c) window) }
+pub fn leaf_too_large(loads: &[u64], ch: &Chains, n: &Node) -> bool
+    requires { LeafIn loads.now ch.now n.now }
+    ensures { result ≡ some too_large (leaf_cells loads.now ch.now n.now) }
 {
-    match c {
-        Cover::Finished => window,
-        Cover::Partial => window,
-        Cover::Absent => 0,
-    }
+    let chains = reaches(loads, ch, n);
+    weights::some_too_large(&chains[..ch.count])
 }
 
-fn ends_of(ch: Chains, counts: [usize; 8]) -> Ends
-    requires { Few ch }
-    ensures { result ≡ ends_by ch counts }
+pub fn write_leaf(loads: &[u64], ch: &Chains, n: &Node, area: &mut [u64])
+    requires leaf { LeafIn loads.now ch.now n.now }
+    requires room { n.now.base + n.now.cells ≤ length area.old }
+    requires none_large { some too_large (leaf_cells loads.now ch.now n.now) ≡ false }
+    ensures { area.new ≡ put n.now.base (leaf_cells loads.now ch.now n.now) area.old }
 {
-    let totals = ch.totals;
-    let windows = ch.windows;
-    let mut lows = [0usize; 8];
-    let mut highs = [0usize; 8];
-    let mut k = 0;
-    while k < ch.count {
-        let cover = plan::coverage::coverage(counts[k], totals[k]);
-        lows[k] = low_end(cover, windows[k]);
-        highs[k] = high_end(cover, windows[k]);
-        k += 1;
-    }
-    Ends { lows, highs }
-}
-
-pub fn leaf_too_large(rows: &[u64], loads: &[u64], ch: Chains, n: Node) -> bool
-    requires { (rows.now ≡ rows_of) × LeafIn loads.now ch n }
-    ensures { result ≡ some too_large (leaf_cells loads.now ch n) }
-{
-    let counts = n.counts;
-    let e = ends_of(ch, counts);
-    let lows = e.lows;
-    let highs = e.highs;
-    let k = ch.count;
-    let a = (n.centre - 1) * 8;
-    let b = a + k;
-    weights::some_too_large(rows, &loads[a..b], &lows[..k], &highs[..k])
-}
-
-pub fn write_leaf(rows: &[u64], loads: &[u64], ch: Chains, n: Node, area: &mut [u64])
-    requires rows_are { (rows.now ≡ rows_of) × LeafIn loads.now ch n }
-    requires room { n.base + n.cells ≤ length area.old }
-    requires none_large { some too_large (leaf_cells loads.now ch n) ≡ false }
-    ensures { area.new ≡ put n.base (leaf_cells loads.now ch n) area.old }
-{
-    let counts = n.counts;
-    let e = ends_of(ch, counts);
-    let lows = e.lows;
-    let highs = e.highs;
-    let k = ch.count;
-    let a = (n.centre - 1) * 8;
-    let b = a + k;
+    let chains = reaches(loads, ch, n);
     let from = n.base;
     let to = from + n.cells;
-    weights::write_cells(
-        rows,
-        &loads[a..b],
-        &lows[..k],
-        &highs[..k],
-        &mut area[from..to],
-    );
+    weights::write_cells(&chains[..ch.count], &mut area[from..to]);
 }

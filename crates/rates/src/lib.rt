@@ -5,7 +5,6 @@ ghost use Rattle.std.specs.Prelude.{◌≡◌, ◌≤◌, length};
 ghost use Rattle.modelfile.specs.Network.{windows_of};
 ghost use Rattle.modelfile.proofs.Guaranteed.{Guaranteed};
 ghost use Rattle.arith.specs.Capped.{capped};
-ghost use Rattle.binomials.specs.Rows.{rows as rows_of};
 ghost use Rattle.calls.specs.Asked.{cells_in};
 ghost use Rattle.calls.specs.Sheet.{numerator};
 ghost use Rattle.rates.specs.Steps.{Kept, numerators_of};
@@ -15,28 +14,26 @@ use plan::asking::run_of;
 use runs::whole::whole_value;
 
 // "A chain with window 0 has numerator 0 and isn't run."
-fn numerator(rows: &[u64], m: &Model, chain: u64, area: &mut [u64]) -> Option<u64>
-    requires rows_are { rows.now ≡ rows_of }
+fn numerator(m: &Model, chain: u64, area: &mut [u64]) -> Option<u64>
     requires guaranteed { Guaranteed m.now × (1 ≤ chain) × (cells_in m.now (windows_of m.now) ≤ length area.old) }
     ensures value { result ≡ capped (numerator m.now chain) }
     ensures kept { Kept (cells_in m.now (windows_of m.now)) area.old area.new }
 {
     match run_of(*m, chain) {
-        Ok(run) => whole_value(rows, &run, area),
+        Ok(run) => whole_value(&run, area),
         Err(_) => Some(0),
     }
 }
 
 // A numerator for each chain, if none is too large.
-pub fn numerators(rows: &[u64], m: &Model, area: &mut [u64]) -> Option<[u64; 8]>
-    requires rows_are { rows.now ≡ rows_of }
+pub fn numerators(m: &Model, area: &mut [u64]) -> Option<[u64; 8]>
     requires guaranteed { Guaranteed m.now × (cells_in m.now (windows_of m.now) ≤ length area.old) }
     ensures numbers { result ≡ numerators_of m.now }
     ensures kept { Kept (cells_in m.now (windows_of m.now)) area.old area.new }
 {
     let mut numbers = [0u64; 8];
     for k in 0..m.chains {
-        numbers[k] = numerator(rows, m, k as u64 + 1, area)?;
+        numbers[k] = numerator(m, k as u64 + 1, area)?;
     }
     Some(numbers)
 }

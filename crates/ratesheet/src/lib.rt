@@ -25,9 +25,8 @@ fn run_all(run: &Run, area: &mut [u64]) -> Result<Sheet, Refusal>
     ensures answer { result ≡ sheet_of run.now.model }
     ensures kept { Kept (cells_in run.now.model (windows_of run.now.model)) area.old area.new }
 {
-    let rows = binomials::rows();
-    let value = whole_value(&rows, run, area).ok_or(Refusal::TooLarge)?;
-    let numerators = numerators(&rows, &run.model, area).ok_or(Refusal::LoweredTooLarge)?;
+    let value = whole_value(run, area).ok_or(Refusal::TooLarge)?;
+    let numerators = numerators(&run.model, area).ok_or(Refusal::LoweredTooLarge)?;
     Ok(Sheet {
         value,
         pairs: run.table.pairs,

@@ -38,11 +38,10 @@ fn start_in(run: &Run, area: &mut [u64]) -> Result<(), Refusal>
     if no_room(run.table.cells, area.len()) {
         return Err(Refusal::NoRoom);
     }
-    let rows = binomials::rows();
-    if some_leaf_too_large(&rows, run.model, run.windows, run.table) {
+    if some_leaf_too_large(run.model, run.windows, run.table) {
         return Err(Refusal::TooLarge);
     }
-    fill(&rows, run.model, run.windows, run.table, area);
+    fill(run.model, run.windows, run.table, area);
     Ok(())
 }
 

@@ -4,7 +4,6 @@ ghost use Rattle.network.specs.States.{value};
 ghost use Rattle.modelfile.specs.Network.{centres_of};
 ghost use Rattle.calls.specs.Asked.{cells_in};
 ghost use Rattle.arith.specs.Capped.{capped};
-ghost use Rattle.binomials.specs.Rows.{rows as rows_of};
 ghost use Rattle.plan.specs.Table.{windows_in};
 ghost use Rattle.plan.specs.Asking.{Ready};
 
@@ -15,18 +14,17 @@ use plan::Run;
 use spends::spend;
 
 // The cells past the model's stay as they are.
-pub fn whole_value(rows: &[u64], run: &Run, area: &mut [u64]) -> Option<u64>
-    requires rows_are { rows.now ≡ rows_of }
+pub fn whole_value(run: &Run, area: &mut [u64]) -> Option<u64>
     requires ready { Ready run.now }
     requires room { cells_in run.now.model (windows_in run.now.model run.now.windows) ≤ length area.old }
     ensures value { result ≡ capped (value (centres_of run.now.model) (windows_in run.now.model run.now.windows)) }
     ensures long { length area.new ≡ length area.old }
     ensures past { drop (cells_in run.now.model (windows_in run.now.model run.now.windows)) area.new ≡ drop (cells_in run.now.model (windows_in run.now.model run.now.windows)) area.old }
 {
-    if some_leaf_too_large(rows, run.model, run.windows, run.table) {
+    if some_leaf_too_large(run.model, run.windows, run.table) {
         return None;
     }
-    fill(rows, run.model, run.windows, run.table, area);
+    fill(run.model, run.windows, run.table, area);
     let all = Quota {
         skip: 0,
         budget: run.table.pairs as usize,

@@ -3,7 +3,6 @@ pub mod WeightLaws
 pub mod MonotonyLaws
 pub mod BetweenLaws
 pub mod FillLaws
-pub mod FillingLaws
 pub mod PresentLaws
 pub mod LeafLaws
 pub mod SpanLaws

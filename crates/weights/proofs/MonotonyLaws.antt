@@ -41,7 +41,8 @@ power_rises (suc load) h z = pow-le-pow_right (omega arith) h
 abbrev pub Under : List ℕ → List ℕ → Type 0
 Under ns ms = (k : ℕ) → get_or ns k 0 ≤ get_or ms k 0
 
-pub after_rises : (loads ns ms : List ℕ) {s t : ℕ} → length ns ≡ length loads → length ms ≡ length loads → s ≤ t → Under ns ms → ((k : ℕ) → get_or loads k 0 ≡ 0 → get_or ms k 0 ≡ 0) → weight_after s loads ns ≤ weight_after t loads ms
+pub after_rises : (loads ns ms : List ℕ) {s t : ℕ} → length ns ≡ length loads → length ms ≡ length loads → s ≤ t → Under ns ms
+    → ((k : ℕ) → get_or loads k 0 ≡ 0 → get_or ms k 0 ≡ 0) → weight_after s loads ns ≤ weight_after t loads ms
 unfolding weight_after multinomial powers
 after_rises [] [] [] a b h u z = le_refl 1
 after_rises [] (n ∷ ns) ms a b h u z = absurd (omega arith)

@@ -11,10 +11,14 @@ use Rattle.sums.specs.Lists.{from, by_number, all, among}
 use Rattle.sums.proofs.BoolLaws.{not_some, those_out, among_is}
 use Rattle.network.specs.Centre.{Route, visit}
 use Rattle.network.specs.Coverage.{Coverage, finished, partial, absent, leaf, under, visits, chain_centres, coverage_by, coverage, coverages}
-use Rattle.network.specs.Cells.{Span, span, spans_at}
-use Rattle.weights.specs.Ranges.{AtMost}
-use Rattle.weights.specs.Leaf.{lowest, highest, LeafEnds}
-use Rattle.weights.proofs.BetweenLaws.{spans_ends}
+use Rattle.network.specs.Cells.{Span, only, upto, span, spans_at}
+use Rattle.std.specs.List.{All}
+use Rattle.std.proofs.lemmas.List.Elements.{All-nil, All-cons}
+use Rattle.weights.specs.Leaf.{lowest, highest, reach_by, reaches, Sound, LeafEnds}
+use Rattle.weights.proofs.BetweenLaws.{reaches-length}
+
+abbrev pub AtMost : ℕ → List ℕ → Type 0
+AtMost top ns = (k : ℕ) → get_or ns k 0 ≤ top
 
 leaf-absent : (routes : List Route) (c k : ℕ) → visits routes k c ≡ false → coverage routes (under (leaf c)) k ≡ absent
 unfolding coverage coverage_by under chain_centres
@@ -27,6 +31,11 @@ leaf-absent routes c k e =
     other x v true a = absurd (true≢false (sym v ∙ ap (visits routes k) (Memᴰ.eq_of_singleton (among_is (c ∷ []) a)) ∙ e))
 
 -- ---- the spans, from chain a on
+
+span_ordered : (s : Span) → lowest s ≤ highest s
+unfolding lowest highest
+span_ordered (only n) = le_refl n
+span_ordered (upto n) = zero-le
 
 span_low : (s : Coverage) (window : ℕ) → highest (span s window) ≤ window
 unfolding highest span
@@ -55,11 +64,28 @@ module _ (cover : ℕ → Coverage) where
   spans_absent a (w ∷ windows) zero e = ap (λ s. highest (span s w)) (ap cover (sym (add-zero a)) ∙ e)
   spans_absent a (w ∷ windows) (suc k) e = spans_absent (suc a) windows k (ap cover (suc-add a k ∙ sym (add-suc a k)) ∙ e)
 
-pub leaf_ends : (routes : List Route) (windows loads : List ℕ) (c : ℕ) → length windows ≤ 8 → length loads ≡ length windows → AtMost 15 windows → by_number routes c [] ≡ map visit loads → LeafEnds loads (map lowest (spans_at routes windows (leaf c))) (map highest (spans_at routes windows (leaf c)))
+-- chains with such spans
+sound_all : (loads : List ℕ) (spans : List Span) → length spans ≡ length loads → AtMost 15 (map highest spans)
+    → ((k : ℕ) → get_or loads k 0 ≡ 0 → get_or (map highest spans) k 0 ≡ 0) → All Sound (reaches loads spans)
+unfolding zip_with
+sound_all [] [] e w a = All-nil Sound
+sound_all [] (s ∷ spans) e w a = absurd (omega arith)
+sound_all (load ∷ loads) [] e w a = absurd (omega arith)
+sound_all (load ∷ loads) (s ∷ spans) e w a =
+    All-cons Sound (reach_by load s) (reaches loads spans)
+    (record { ordered = span_ordered s; window = w 0; absent = a 0 })
+    (sound_all loads spans (omega arith) (λ k. w (suc k)) (λ k. a (suc k)))
+
+pub leaf_ends : (routes : List Route) (windows loads : List ℕ) (c : ℕ) → length windows ≤ 8 → length loads ≡ length windows → AtMost 15 windows
+    → by_number routes c [] ≡ map visit loads → LeafEnds (reaches loads (spans_at routes windows (leaf c)))
 unfolding spans_at coverages visits by_number visit
 leaf_ends routes windows loads c few same low route =
-    spans_ends loads (spans_from cover 1 windows) (omega arith) (spans_length cover 1 windows ∙ sym same) (λ k. le_trans (spans_low cover 1 windows k) (low k)) (λ k e.
-    spans_absent cover 1 windows k (leaf-absent routes c (1 + k) (unvisited k e)))
+    let long = spans_length cover 1 windows ∙ sym same in
+    record {
+      few = omega (arith, reaches-length loads (spans_from cover 1 windows) long);
+      sound = sound_all loads (spans_from cover 1 windows) long (λ k. le_trans (spans_low cover 1 windows k) (low k))
+          (λ k e. spans_absent cover 1 windows k (leaf-absent routes c (1 + k) (unvisited k e)));
+    }
   where
     cover : ℕ → Coverage
     cover = coverage routes (under (leaf c))

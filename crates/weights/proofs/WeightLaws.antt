@@ -31,7 +31,9 @@ unfolding weight_after multinomial powers
 after_more s load n loads ns = omega arith
 
 -- the same in the middle of two lists
-pub after_at : (loads ns : List ℕ) (k s : ℕ) → k < length loads → length ns ≡ length loads → weight_after s (drop k loads) (drop k ns) ≡ get_or loads k 0 ^ get_or ns k 0 * binomial (s + get_or ns k 0) (get_or ns k 0) * weight_after (s + get_or ns k 0) (drop (k + 1) loads) (drop (k + 1) ns)
+pub after_at : (loads ns : List ℕ) (k s : ℕ) → k < length loads → length ns ≡ length loads
+    → weight_after s (drop k loads) (drop k ns) ≡ get_or loads k 0 ^ get_or ns k 0 * binomial (s + get_or ns k 0) (get_or ns k 0) * weight_after
+    (s + get_or ns k 0) (drop (k + 1) loads) (drop (k + 1) ns)
 after_at loads ns k s h e =
     let l : k < length ns = omega arith in
     rw (add-one k, drop-cons loads k 0, drop-cons ns k 0) (after_more s (get_or loads k 0) (get_or ns k 0) (drop (suc k) loads) (drop (suc k) ns))
@@ -41,9 +43,11 @@ unfolding fits visit weight_after multinomial powers
 after_pos s [] [] e = le_refl 1
 after_pos s [] (n ∷ ns) e = absurd (true≢false (sym e))
 after_pos s (load ∷ loads) [] e = absurd (true≢false (sym e))
-after_pos s (zero ∷ loads) (zero ∷ ns) e = rw (after_more s 0 0 loads ns) (one-le-mul (one-le-mul (le_refl 1) (binomial_pos s 0)) (after_pos (s + 0) loads ns e))
+after_pos s (zero ∷ loads) (zero ∷ ns) e = rw (after_more s 0 0 loads ns)
+    (one-le-mul (one-le-mul (le_refl 1) (binomial_pos s 0)) (after_pos (s + 0) loads ns e))
 after_pos s (zero ∷ loads) (suc n ∷ ns) e = absurd (true≢false (sym e))
-after_pos s (suc load ∷ loads) (n ∷ ns) e = rw (after_more s (suc load) n loads ns) (one-le-mul (one-le-mul (one-le-pow n (suc load) (omega arith)) (binomial_pos s n)) (after_pos (s + n) loads ns e))
+after_pos s (suc load ∷ loads) (n ∷ ns) e = rw (after_more s (suc load) n loads ns)
+    (one-le-mul (one-le-mul (one-le-pow n (suc load) (omega arith)) (binomial_pos s n)) (after_pos (s + n) loads ns e))
 
 -- ---- the index fits, and so does what is left of it
 
@@ -84,19 +88,13 @@ module _ (loads ns : List ℕ) (f : fits (map visit loads) ns ≡ true) (acc bef
       sym (ap capped (sym (mul-one acc) ∙ ap (λ x. acc * x) (sym e) ∙ r)) ∙ capped_exact low
 
   -- with the next chain's part
-  module _ (h : k < length loads) where
-    abbrev load : ℕ
-    load = get_or loads k 0
-
-    abbrev n : ℕ
-    n = get_or ns k 0
-
+  module _ (h : k < length loads) {load n : ℕ} (el : get_or loads k 0 ≡ load) (en : get_or ns k 0 ≡ n) where
     abbrev later : ℕ
     later = weight_after (before + n) (drop (k + 1) loads) (drop (k + 1) ns)
 
     part_on : acc * load ^ n * binomial (before + n) n * later ≡ weight loads ns
     unfolding Reached
-    part_on = omega (arith, ap (λ x. acc * x) (after_at loads ns k before h (fits-length loads ns f)), r)
+    part_on = rw (← el, ← en) (omega (arith, ap (λ x. acc * x) (after_at loads ns k before h (fits-length loads ns f)), r))
 
     later_pos : 1 ≤ later
     later_pos = after_pos (before + n) (drop (k + 1) loads) (drop (k + 1) ns) (fits-drop (k + 1) loads ns f)

@@ -1,9 +1,10 @@
--- The cells of one leaf, from the lowest and the highest index of each chain.
-use Rattle.std.specs.Prelude.{ℕ, suc, ◌-◌, ◌≤◌, ◌≡◌, length, get_or}
-use mathlib.Core.List.{List, [], ◌∷◌, map, flat_map}
+-- The cells of one leaf, from what each chain has there: its load, and the lowest and the highest value of its index.
+use Rattle.std.specs.Prelude.{ℕ, suc, ◌-◌, ◌≤◌, ◌≡◌, length}
+use Rattle.std.specs.List.{All}
+use mathlib.Core.List.{List, [], ◌∷◌, map, flat_map, zip_with}
 use Rattle.sums.specs.Lists.{from}
 use Rattle.network.specs.Cells.{Span, only, upto}
-use Rattle.weights.specs.Ranges.{AtMost}
+use Rattle.weights.specs.declared.Reach.{Reach}
 
 -- a span's ends: "finished chains stand at N, absent ones at 0", partial ones run from 0 to N
 unfoldable pub lowest : Span → ℕ
@@ -14,17 +15,34 @@ unfoldable pub highest : Span → ℕ
 highest (only n) = n
 highest (upto n) = n
 
--- every index from the lowest to the highest, entry by entry; the last chain runs fastest
-unfoldable pub between : List ℕ → List ℕ → List (List ℕ)
-between [] highs = [] ∷ []
-between (low ∷ lows) [] = [] ∷ []
-between (low ∷ lows) (high ∷ highs) = flat_map (λ i. map (λ index. i ∷ index) (between lows highs)) (from low (suc high - low))
+-- the chains of a leaf, by their loads at its centre and their spans
+abbrev pub reach_by : ℕ → Span → Reach
+reach_by load s = record { load = load; low = lowest s; high = highest s }
 
--- what a leaf's numbers keep to: one of each a chain; a chain that does not visit stands at 0
-pub record LeafEnds (loads lows highs : List ℕ) : Type 0 where
-  pub few : length loads ≤ 8
-  pub lows_length : length lows ≡ length loads
-  pub highs_length : length highs ≡ length loads
-  pub ordered : (k : ℕ) → get_or lows k 0 ≤ get_or highs k 0
-  pub windows : AtMost 15 highs
-  pub absent : (k : ℕ) → get_or loads k 0 ≡ 0 → get_or highs k 0 ≡ 0
+abbrev pub reaches : List ℕ → List Span → List Reach
+reaches loads spans = zip_with reach_by loads spans
+
+abbrev pub loads_of : List Reach → List ℕ
+loads_of chains = map (λ r. r.load) chains
+
+-- the highest index
+abbrev pub highs_of : List Reach → List ℕ
+highs_of chains = map (λ r. r.high) chains
+
+-- every index from the lowest to the highest, entry by entry; the last chain runs fastest
+unfoldable pub between : List Reach → List (List ℕ)
+between [] = [] ∷ []
+between (r ∷ chains) = flat_map (λ i. map (λ index. i ∷ index) (between chains)) (from r.low (suc r.high - r.low))
+
+-- what a leaf's numbers keep to: a chain that does not visit stands at 0
+abbrev pub InWindow : Reach → Type 0
+InWindow r = r.high ≤ 15
+
+pub record Sound (r : Reach) : Type 0 where
+  pub ordered : r.low ≤ r.high
+  pub window : InWindow r
+  pub absent : r.load ≡ 0 → r.high ≡ 0
+
+pub record LeafEnds (chains : List Reach) : Type 0 where
+  pub few : length chains ≤ 8
+  pub sound : All Sound chains

@@ -1,244 +1,140 @@
 // The weight of one centre at one index, exact or too large; whether a leaf has a weight that is too large; and a leaf's cells.
 #![tactic(auto)]
 
-ghost use Rattle.std.specs.Prelude.{◌≡◌, true, false, map, ◌++◌, ◌+◌, ◌*◌, ◌^◌, ◌≤◌, ◌<◌, leb, length, take, drop};
+ghost use Rattle.std.specs.Prelude.{◌≡◌, true, false, map, ◌++◌, ◌+◌, ◌*◌, ◌^◌, ◌≤◌, ◌<◌, leb, length, take};
+ghost use Rattle.std.specs.List.{All};
 ghost use Rattle.sums.specs.Lists.{some};
 ghost use Rattle.arith.specs.Capped.{capped};
-ghost use Rattle.binomials.specs.Rows.{rows as rows_of};
 ghost use Rattle.network.specs.Weight.{binomial as binomial_of, weight};
 ghost use Rattle.network.specs.Centre.{visit, fits};
-ghost use Rattle.weights.specs.Ranges.{AtMost};
-ghost use Rattle.weights.specs.Leaf.{between, LeafEnds};
+ghost use Rattle.weights.specs.Leaf.{loads_of, highs_of, between, InWindow, LeafEnds};
 ghost use Rattle.weights.specs.Parts.{cells_from, ToFill};
-ghost use Rattle.weights.specs.Present.{presence as presence_of, Kept};
+ghost use Rattle.weights.specs.Present.{Kept};
+
+use binomials::binomial;
+
+// What a chain has at a leaf: its load there, and the lowest and the highest value of its index.
+#[derive(Clone, Copy, Default)]
+pub struct Reach {
+    pub load: u64,
+    pub low: usize,
+    pub high: usize,
+}
 
 fn times_power(acc: u64, load: u64, n: usize) -> Option<u64>
     ensures { result ≡ capped (acc * load ^ n) }
 {
     let mut product = acc;
-    let mut i: usize = 0;
-    while i < n {
-        match arith::mul(product, load) {
-            Some(x) => {
-                product = x;
-            }
-            None => {
-                return None;
-            }
-        }
-        i += 1;
+    for _ in 0..n {
+        product = arith::mul(product, load)?;
     }
     Some(product)
 }
 
 // One chain's part of a weight: n messages, where those of the chains before are there already. The binomial comes last: it is at
 // least 1, so a power that is too large settles it.
-fn times_chain(rows: &[u64], acc: u64, load: u64, before: usize, n: usize) -> Option<u64>
-    requires rows_are { rows.now ≡ rows_of }
-    requires in_table { (before + n ≤ 120) × (n ≤ 15) }
+fn times_chain(acc: u64, load: u64, before: usize, n: usize) -> Option<u64>
+    requires { (before + n ≤ 120) × (n ≤ 15) }
     ensures { result ≡ capped (acc * load ^ n * binomial_of (before + n) n) }
 {
-    match times_power(acc, load, n) {
-        Some(x) => arith::mul(x, binomials::binomial_in(rows, before + n, n)),
-        None => None,
-    }
+    let power = times_power(acc, load, n)?;
+    arith::mul(power, binomial(before + n, n))
 }
 
-pub fn weight_of(rows: &[u64], loads: &[u64], index: &[usize]) -> Option<u64>
-    requires rows_are { rows.now ≡ rows_of }
-    requires few_chains { (length loads.now ≤ 8) × AtMost 15 index.now }
-    requires on_route { fits (map visit loads.now) index.now ≡ true }
-    ensures { result ≡ capped (weight loads.now index.now) }
+// The weight at the index that has each chain at its highest value.
+pub fn weight_of(chains: &[Reach]) -> Option<u64>
+    requires few_chains { (length chains.now ≤ 8) × All InWindow chains.now }
+    requires on_route { fits (map visit (loads_of chains.now)) (highs_of chains.now) ≡ true }
+    ensures { result ≡ capped (weight (loads_of chains.now) (highs_of chains.now)) }
 {
     let mut acc: u64 = 1;
     let mut before: usize = 0;
-    let mut k: usize = 0;
-    while k < loads.len() {
-        let n = index[k];
-        match times_chain(rows, acc, loads[k], before, n) {
-            Some(x) => {
-                acc = x;
-            }
-            None => {
-                return None;
-            }
-        }
-        before += n;
-        k += 1;
+    for chain in chains {
+        acc = times_chain(acc, chain.load, before, chain.high)?;
+        before += chain.high;
     }
     Some(acc)
 }
 
 // Whether some cell of a leaf is too large. No index has a larger weight than the highest.
-pub fn some_too_large(rows: &[u64], loads: &[u64], lows: &[usize], highs: &[usize]) -> bool
-    requires rows_are { rows.now ≡ rows_of }
-    requires leaf_ends { LeafEnds loads.now lows.now highs.now }
-    ensures { result ≡ some (λ n. leb (2 ^ 64) n) (map (weight loads.now) (between lows.now highs.now)) }
+pub fn some_too_large(chains: &[Reach]) -> bool
+    requires { LeafEnds chains.now }
+    ensures { result ≡ some (λ n. leb (2 ^ 64) n) (map (weight (loads_of chains.now)) (between chains.now)) }
 {
-    match weight_of(rows, loads, highs) {
-        Some(_) => false,
-        None => true,
-    }
+    weight_of(chains).is_none()
 }
 
 fn exact_power(acc: u64, load: u64, n: usize) -> u64
     requires { acc * load ^ n < 2 ^ 64 }
     ensures { result ≡ acc * load ^ n }
 {
-    match times_power(acc, load, n) {
-        Some(x) => x,
-        None => 0,
-    }
+    times_power(acc, load, n).unwrap()
 }
 
-// The cells of the last chain: the loop of `fill` with a store where that has a call.
-fn fill_last(
-    rows: &[u64],
-    loads: &[u64],
-    lows: &[usize],
-    highs: &[usize],
-    k: usize,
-    acc: u64,
-    before: usize,
-    out: &mut [u64],
-    at: usize,
-) -> usize
-    requires rows_are { (rows.now ≡ rows_of) × (k + 1 ≡ length loads.now) }
-    requires to_fill { ToFill loads.now lows.now highs.now k acc before at (length out.old) }
-    ensures next_place { result ≡ at + length (between (drop k lows.now) (drop k highs.now)) }
-    ensures written { take result out.new ≡ take at out.old ++ cells_from acc before (drop k loads.now) (drop k lows.now) (drop k highs.now) }
+// The cells of these chains, from `at` on, where the chains before make `acc` and have `before` messages. Returns the place after
+// them. Nothing is too large, so the products need no test; past the highest value the power is not used, and may wrap.
+fn fill(chains: &[Reach], acc: u64, before: usize, out: &mut [u64], at: usize) -> usize
+    requires { ToFill chains.now acc before at (length out.old) }
+    ensures next_place { result ≡ at + length (between chains.now) }
+    ensures written { take result out.new ≡ take at out.old ++ cells_from acc before chains.now }
 {
-    let load = loads[k];
-    let high = highs[k];
-    let mut i = lows[k];
-    let mut power = exact_power(acc, load, i);
-    let mut next = at;
-    loop {
-        let ways = binomials::binomial_in(rows, before + i, i);
-        out[next] = power * ways;
-        next += 1;
-        if i == high {
-            return next;
+    match chains.split_first() {
+        None => {
+            out[at] = acc;
+            at + 1
         }
-        power = power * load;
-        i += 1;
+        Some((chain, later)) => {
+            let mut power = exact_power(acc, chain.load, chain.low);
+            let mut next = at;
+            for i in chain.low..chain.high + 1 {
+                let cell = power * binomial(before + i, i);
+                if later.is_empty() {
+                    // a call would store this cell too, and take longer
+                    out[next] = cell;
+                    next += 1;
+                } else {
+                    next = fill(later, cell, before + i, out, next);
+                }
+                power = power.wrapping_mul(chain.load);
+            }
+            next
+        }
     }
 }
 
-// The cells of chain k and of those after it, from `at` on, where the chains before make `acc` and have `before` messages. Returns the
-// place after them. Nothing is too large, so the products need no test.
-fn fill(
-    rows: &[u64],
-    loads: &[u64],
-    lows: &[usize],
-    highs: &[usize],
-    k: usize,
-    acc: u64,
-    before: usize,
-    out: &mut [u64],
-    at: usize,
-) -> usize
-    requires rows_are { (rows.now ≡ rows_of) × (k < length loads.now) }
-    requires to_fill { ToFill loads.now lows.now highs.now k acc before at (length out.old) }
-    ensures next_place { result ≡ at + length (between (drop k lows.now) (drop k highs.now)) }
-    ensures written { take result out.new ≡ take at out.old ++ cells_from acc before (drop k loads.now) (drop k lows.now) (drop k highs.now) }
-{
-    if k + 1 == loads.len() {
-        return fill_last(rows, loads, lows, highs, k, acc, before, out, at);
-    }
-    let load = loads[k];
-    let high = highs[k];
-    let mut i = lows[k];
-    let mut power = exact_power(acc, load, i);
-    let mut next = at;
-    loop {
-        let ways = binomials::binomial_in(rows, before + i, i);
-        next = fill(
-            rows,
-            loads,
-            lows,
-            highs,
-            k + 1,
-            power * ways,
-            before + i,
-            out,
-            next,
-        );
-        if i == high {
-            return next;
-        }
-        power = power * load;
-        i += 1;
-    }
-}
-
-// The chains that are present at a leaf, in their order: those whose highest index is not 0.
+// The chains that are present at a leaf, in their order: those whose highest value is not 0.
 #[derive(Clone, Copy)]
 struct Present {
     count: usize,
-    loads: [u64; 8],
-    lows: [usize; 8],
-    highs: [usize; 8],
+    chains: [Reach; 8],
 }
 
-fn presence(high: usize) -> usize
-    ensures { result ≡ presence_of high }
+fn those_present(chains: &[Reach]) -> Present
+    requires { length chains.now ≤ 8 }
+    ensures { Kept chains.now result.count result.chains }
 {
-    if high == 0 { 0 } else { 1 }
-}
-
-// Each chain is written, and the next one over it where it is not present.
-fn those_present(loads: &[u64], lows: &[usize], highs: &[usize]) -> Present
-    requires { LeafEnds loads.now lows.now highs.now }
-    ensures { Kept loads.now lows.now highs.now result.count result.loads result.lows result.highs }
-{
-    let mut kept_loads = [0u64; 8];
-    let mut kept_lows = [0usize; 8];
-    let mut kept_highs = [0usize; 8];
-    let mut n: usize = 0;
-    let mut k: usize = 0;
-    while k < loads.len() {
-        let high = highs[k];
-        kept_loads[n] = loads[k];
-        kept_lows[n] = lows[k];
-        kept_highs[n] = high;
-        n += presence(high);
-        k += 1;
+    let mut kept = [Reach::default(); 8];
+    let mut count: usize = 0;
+    for chain in chains {
+        if 0 < chain.high {
+            kept[count] = *chain;
+            count += 1;
+        }
     }
     Present {
-        count: n,
-        loads: kept_loads,
-        lows: kept_lows,
-        highs: kept_highs,
+        count,
+        chains: kept,
     }
 }
 
 // A chain that stands at 0 changes no weight, so only those present are walked through.
-pub fn write_cells(rows: &[u64], loads: &[u64], lows: &[usize], highs: &[usize], out: &mut [u64])
-    requires rows_are { rows.now ≡ rows_of }
-    requires leaf_ends { LeafEnds loads.now lows.now highs.now }
-    requires room { length out.old ≡ length (between lows.now highs.now) }
-    requires none_large { some (λ n. leb (2 ^ 64) n) (map (weight loads.now) (between lows.now highs.now)) ≡ false }
-    ensures { out.new ≡ map (weight loads.now) (between lows.now highs.now) }
+pub fn write_cells(chains: &[Reach], out: &mut [u64])
+    requires leaf_ends { LeafEnds chains.now }
+    requires room { length out.old ≡ length (between chains.now) }
+    requires none_large { some (λ n. leb (2 ^ 64) n) (map (weight (loads_of chains.now)) (between chains.now)) ≡ false }
+    ensures { out.new ≡ map (weight (loads_of chains.now)) (between chains.now) }
 {
-    let present = those_present(loads, lows, highs);
-    let n = present.count;
-    if n == 0 {
-        out[0] = 1;
-        return;
-    }
-    let kept_loads = present.loads;
-    let kept_lows = present.lows;
-    let kept_highs = present.highs;
-    fill(
-        rows,
-        &kept_loads[..n],
-        &kept_lows[..n],
-        &kept_highs[..n],
-        0,
-        1,
-        0,
-        out,
-        0,
-    );
+    let present = those_present(chains);
+    let kept = present.chains;
+    fill(&kept[..present.count], 1, 0, out, 0);
 }

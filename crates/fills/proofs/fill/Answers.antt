@@ -1,32 +1,30 @@
--- `fill` meets its contract: after i nodes their cells are written, and the rest is as it was.
-use mathlib.Core.Path.{sym}
+-- `fill` meets its contract: the cells of the nodes passed are written, and the rest is as it was.
 use native.Mathlib.Omega.{arith}
 use borrow.Author.Rules.{rules}
 use Rattle.fills.proofs.PreparedLaws.{node_ready}
-use Rattle.fills.proofs.TurnLaws.{written_first, written_last, written_turn, inside, next_low, next_room}
+use Rattle.fills.proofs.TurnLaws.{written_first, written_last, written_turn, next_low, next_room, among_first, past_first, first_at}
 use Rattle.fills.proofs.fill.Goals as goal
 
-pub loop-next-init : goal.loop-next-init
-loop-next-init c = written_first _ _ _ _
-
-pub slice_bounds-write_node-end : goal.slice_bounds-write_node-end
-slice_bounds-write_node-end c = sym c.requires.rows_are.1.guaranteed.loads_long
-
-pub bounds-nodes-next : goal.bounds-nodes-next
-bounds-nodes-next c =
-    omega (arith, inside _ c.args.windows _ c.requires.rows_are.1 c.loop-next-test.true, c.requires.rows_are.1.tabled.nodes_long)
+pub loop-n-init : goal.loop-n-init
+loop-n-init c = written_first _ _ _ _
 
 pub write_node-requires : goal.write_node-requires
 write_node-requires c =
-    let h = c.loop-next-test.true in
-    record { rows_are = (c.requires.rows_are.0, node_ready _ c.args.windows _ c.requires.rows_are.1 _ h); room = next_room _ c.args.windows _ c.requires.rows_are.1 h c.loop-next.invariant c.requires.room; none_large = next_low _ c.args.windows _ c.requires.rows_are.1 h c.requires.none_large }
+    let p = c.requires.prepared in
+    let h = among_first _ c.args.windows _ p c.loop-n-test.true (omega arith) in
+    let e = first_at _ c.args.windows _ p c.loop-n-test.true (omega arith) in
+    record {
+      node = rw e (node_ready _ c.args.windows _ p _ h);
+      room = rw e (next_room _ c.args.windows _ p h c.loop-n.invariant c.requires.room);
+      none_large = rw e (next_low _ c.args.windows _ p h c.requires.none_large);
+    }
 
-pub loop-next-preserved : goal.loop-next-preserved
-loop-next-preserved c =
-    written_turn _ c.args.windows _ c.requires.rows_are.1 c.loop-next-test.true c.loop-next.invariant c.requires.room c.write_node.ensures (search rules)
-
-pub shape_of-area : goal.shape_of-area
-shape_of-area c = c.loop-next.invariant.long
+pub loop-n-preserved : goal.loop-n-preserved
+loop-n-preserved c =
+    let p = c.requires.prepared in
+    let h = among_first _ c.args.windows _ p c.loop-n-test.true (omega arith) in
+    written_turn _ c.args.windows _ p h c.loop-n.invariant c.requires.room
+    (rw (first_at _ c.args.windows _ p c.loop-n-test.true (omega arith)) at c.write_node.ensures) (search rules)
 
 pub returns : goal.returns
-returns c = written_last _ c.args.windows _ c.requires.rows_are.1 c.loop-next.invariant c.loop-next-test.false
+returns c = written_last _ c.args.windows _ c.requires.prepared c.loop-n.invariant (past_first _ c.args.windows _ c.requires.prepared c.loop-n-test.false)

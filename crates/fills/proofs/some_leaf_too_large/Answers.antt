@@ -1,31 +1,26 @@
--- `some_leaf_too_large` meets its contract: no cell of the nodes passed is too large.
-use mathlib.Core.Path.{sym}
-use native.Mathlib.Omega.{arith}
-use Rattle.fills.proofs.PreparedLaws.{node_ready}
-use Rattle.fills.proofs.TurnLaws.{passed_first, passed_last, passed_turn, passed_found, inside}
+-- `some_leaf_too_large` meets its contract: a cell is too large where a node of the table has one.
+use borrow.Author.Rules.{rules}
+use borrow.Author.Tests.{tests}
+use lib.ListN.{take}
+use mathlib.Core.Bool.{true, false}
+use mathlib.Core.Path.{◌≡◌}
+use Rattle.std.proofs.lemmas.Iterator.{YieldsList-from_slice, cases_from_any}
+use Rattle.std.proofs.lemmas.Iterator.Adapters.{serves_from_places}
+use Rattle.sums.specs.Lists.{some}
+use Rattle.calls.specs.Start.{too_large}
+use Rattle.plan.specs.Asking.{chains_of}
+use Rattle.fills.specs.Nodes.{node_cells}
+use Rattle.fills.proofs.TurnLaws.{item_ready, any_is}
 use Rattle.fills.proofs.some_leaf_too_large.Goals as goal
 
-pub loop-i-init : goal.loop-i-init
-loop-i-init c = passed_first _ _ _
-
-pub slice_bounds-node_too_large-end : goal.slice_bounds-node_too_large-end
-slice_bounds-node_too_large-end c = sym c.requires.1.guaranteed.loads_long
-
-pub bounds-nodes-i : goal.bounds-nodes-i
-bounds-nodes-i c =
-    omega (arith, inside _ c.args.windows _ c.requires.1 c.loop-i-test.true, c.requires.1.tabled.nodes_long)
-
-pub node_too_large-requires : goal.node_too_large-requires
-node_too_large-requires c =
-    (c.requires.0, node_ready _ c.args.windows _ c.requires.1 _ c.loop-i-test.true)
-
-pub returns-then-node_too_large : goal.returns-then-node_too_large
-returns-then-node_too_large c =
-    passed_found _ c.args.windows _ c.requires.1 c.loop-i-test.true c.node_too_large.ensures c.if-node_too_large.true
-
-pub loop-i-preserved : goal.loop-i-preserved
-loop-i-preserved c =
-    passed_turn _ c.args.windows _ c.requires.1 c.loop-i-test.true c.loop-i.invariant c.node_too_large.ensures c.if-node_too_large.false
+pub any-requires-clause-callable : goal.any-requires-clause-callable
+any-requires-clause-callable c =
+    serves_from_places (YieldsList-from_slice (take c.args.t.count c.args.t.nodes) cc) (λ x q k. search rules)
+    (λ x k l e _ _ _ _ _ _. item_ready _ c.args.windows _ c.requires l e)
 
 pub returns : goal.returns
-returns c = passed_last _ c.args.windows _ c.requires.1 c.loop-i.invariant c.loop-i-test.false
+returns c =
+    let cells = node_cells c.args.m.loads (chains_of c.args.m c.args.windows c.args.t) in
+    any_is _ c.args.windows _ c.requires _
+    (cases_from_any _ _ _ (λ n. some too_large (cells n) ≡ true) (λ n. some too_large (cells n) ≡ false)
+    c.any.ensures.ran (YieldsList-from_slice (take c.args.t.count c.args.t.nodes) cc) (λ x q k. search (rules, tests)) (λ x q k. search (rules, tests)))

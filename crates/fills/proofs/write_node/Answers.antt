@@ -9,11 +9,11 @@ use Rattle.fills.proofs.write_node.Goals as goal
 
 pub returns-then-n-eq0 : goal.returns-then-n-eq0
 returns-then-n-eq0 c =
-    join_put _ c.args.ch c.args.n c.args.area.now c.if-n-eq0.true c.clear.ensures (part_room _ _ _ c.requires.room)
+    join_put _ c.args.ch.now c.args.n.now c.args.area.now c.if-n-eq0.true c.clear.ensures (part_room _ _ _ c.requires.room)
 
-pub write_leaf-requires : goal.write_leaf-requires
-write_leaf-requires c = record { rows_are = (c.requires.rows_are.0, c.requires.rows_are.1 c.if-n-eq0.false); room = c.requires.room; none_large = ap (some too_large) (sym (leaf_cells_lem _ _ _ c.if-n-eq0.false)) ∙ c.requires.none_large }
+pub write_leaf-requires-clause-none_large : goal.write_leaf-requires-clause-none_large
+write_leaf-requires-clause-none_large c = ap (some too_large) (sym (leaf_cells_lem _ _ _ c.if-n-eq0.false)) ∙ c.requires.none_large
 
-pub returns : goal.returns
-returns c =
-    c.write_leaf.ensures ∙ ap (λ l. put c.args.n.base l c.args.area.now) (sym (leaf_cells_lem _ _ _ c.if-n-eq0.false))
+pub returns-else-n-eq0 : goal.returns-else-n-eq0
+returns-else-n-eq0 c =
+    c.write_leaf.ensures ∙ ap (λ l. put c.args.n.now.base l c.args.area.now) (sym (leaf_cells_lem _ _ _ c.if-n-eq0.false))

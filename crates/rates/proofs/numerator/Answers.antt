@@ -8,7 +8,7 @@ use Rattle.rates.proofs.numerator.Goals as goal
 pub whole_value-requires : goal.whole_value-requires
 whole_value-requires c =
     let g = c.requires.guaranteed in
-    record { rows_are = c.requires.rows_are; ready = c.in-Ok.ensures.ready; room = omega (arith, g.2, run_cells _ g.0 _ c.in-Ok.ensures) }
+    record { ready = c.in-Ok.ensures.ready; room = omega (arith, g.2, run_cells _ g.0 _ c.in-Ok.ensures) }
 
 pub returns-in-Err : goal.returns-in-Err
 returns-in-Err c = record { value = not_run _ c.requires.guaranteed.0 _ c.in-Err.ensures c.requires.guaranteed.1; kept = kept_same _ _ }

@@ -10,7 +10,7 @@ pub loop-k-init : goal.loop-k-init
 loop-k-init c = lowerings_first _ c.requires.guaranteed.0 _
 
 pub numerator-requires : goal.numerator-requires
-numerator-requires c = record { rows_are = c.requires.rows_are; guaranteed = (c.requires.guaranteed.0, omega arith, omega (arith, c.requires.guaranteed.1, c.loop-k.invariant.kept.long)) }
+numerator-requires c = record { guaranteed = (c.requires.guaranteed.0, omega arith, omega (arith, c.requires.guaranteed.1, c.loop-k.invariant.kept.long)) }
 
 pub bounds-numbers-k : goal.bounds-numbers-k
 bounds-numbers-k c = omega (arith, c.loop-k.invariant.filled.long, c.requires.guaranteed.0.chains_range, c.loop-k-test.true)

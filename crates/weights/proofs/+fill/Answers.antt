@@ -1,106 +1,72 @@
--- `fill` meets its contract, by recursion on the chains that are left, down to `fill_last`. Each turn of the loop writes the cells with one
--- number of messages of chain k; what it asks for and leaves is in FillingLaws.
-use mathlib.Core.Path.{refl}
+-- `fill` meets its contract, by recursion on the chains that are left. Each turn of the loop writes the cells with i messages of the
+-- first of them; what it asks for and leaves is in FillLaws.
+use Prim.Native.Nat.{◌+◌}
+use mathlib.Core.Path.{◌≡◌, refl, sym, ap}
 use native.Mathlib.Omega.{arith}
-use Rattle.weights.proofs.FillingLaws.{start_low, filling_start, index_small, sum_small, product_low, deeper, filled, filling_more, power_more_low}
+use lib.ListN.{length}
+use borrow.Author.Tests.{eqb-true}
+use Rattle.weights.proofs.FillLaws.{one_cell, last_filled, start_low, filling_start, filling_more, filling_stored, filling_end, product_low, deeper, cell_inside}
 use Rattle.weights.proofs.+fill.Goals as goal
+use Rattle.weights.proofs.+fill.Goals.{then-is_empty, else-is_empty}
 
-pub overflow_add-k : goal.overflow_add-k
-overflow_add-k t c =
-    let to = c.requires.to_fill in
-    omega (arith, to.chain, to.ends.few)
+pub bounds-out-at : goal.bounds-out-at
+bounds-out-at t c = omega (arith, one_cell c.args.chains.now c.in-None.ensures.cases, c.requires.space)
 
-pub fill_last-requires : goal.fill_last-requires
-fill_last-requires t c =
-    let to = c.requires.to_fill in
-    record { rows_are = (c.requires.rows_are.0, c.if-k-loads.true); to_fill = to }
+pub returns-in-None-clause-next_place : goal.returns-in-None-clause-next_place
+returns-in-None-clause-next_place t c = ap (λ n. c.args.at + n) (sym (one_cell c.args.chains.now c.in-None.ensures.cases))
 
-pub returns-then-k-loads : goal.returns-then-k-loads
-returns-then-k-loads t c = c.fill_last.ensures
-
-pub bounds-loads-k : goal.bounds-loads-k
-bounds-loads-k t c = omega (arith, c.requires.rows_are.1)
-
-pub bounds-highs-k : goal.bounds-highs-k
-bounds-highs-k t c =
-    let to = c.requires.to_fill in
-    omega (arith, c.requires.rows_are.1, to.ends.highs_length)
-
-pub bounds-lows-k : goal.bounds-lows-k
-bounds-lows-k t c =
-    let to = c.requires.to_fill in
-    omega (arith, c.requires.rows_are.1, to.ends.lows_length)
+pub returns-in-None-clause-written : goal.returns-in-None-clause-written
+returns-in-None-clause-written t c =
+    last_filled c.args.chains.now c.in-None.ensures.cases _ _ _ _ (omega (arith, one_cell c.args.chains.now c.in-None.ensures.cases, c.requires.space))
 
 pub exact_power-power-requires : goal.exact_power-power-requires
-exact_power-power-requires t c =
-    let to = c.requires.to_fill in
-    start_low to c.requires.rows_are.1
+exact_power-power-requires t c = start_low c.in-Some.ensures.cases.0 c.requires
 
 pub loop-i-init : goal.loop-i-init
-loop-i-init t c =
-    let to = c.requires.to_fill in
-    filling_start to _ _ c.requires.rows_are.1 c.exact_power-power.ensures
+loop-i-init t c = filling_start _ _ _ _ _ _ _ c.exact_power-power.ensures
 
-pub overflow_add-before : goal.overflow_add-before
-overflow_add-before t c =
-    let to = c.requires.to_fill in
-    let f = c.loop-i.invariant in
-    omega (arith, sum_small to refl f)
+pub overflow_mul-cell : goal.overflow_mul-cell
+overflow_mul-cell t c = record { fits = product_low c.in-Some.ensures.cases.0 c.requires c.loop-i.invariant c.loop-i-test.true c.binomial.ensures }
 
-pub binomial_in-ways-requires : goal.binomial_in-ways-requires
-binomial_in-ways-requires t c =
-    let to = c.requires.to_fill in
-    let f = c.loop-i.invariant in
-    record { rows_are = c.requires.rows_are.0; in_table = (sum_small to refl f, index_small to refl f) }
+pub offset_bounds-out-next : goal.offset_bounds-out-next
+offset_bounds-out-next t c =
+    let none : length c.in-Some.later.now ≡ 0 = eqb-true _ _ (sym c.if-is_empty.ensures) in
+    omega (arith, cell_inside c.in-Some.ensures.cases.0 c.requires c.loop-i.invariant c.loop-i-test.true c.binomial.ensures c.loop-i.auto.out none)
 
-pub overflow_add-k-in-loop-i : goal.overflow_add-k-in-loop-i
-overflow_add-k-in-loop-i t c = omega (arith, c.loop-i.invariant.inside)
+pub bounds-out-next : goal.bounds-out-next
+bounds-out-next t c =
+    let none : length c.in-Some.later.now ≡ 0 = eqb-true _ _ (sym c.if-is_empty.ensures) in
+    omega (arith, cell_inside c.in-Some.ensures.cases.0 c.requires c.loop-i.invariant c.loop-i-test.true c.binomial.ensures c.loop-i.auto.out none)
 
-pub overflow_mul-power : goal.overflow_mul-power
-overflow_mul-power t c =
-    let to = c.requires.to_fill in
-    let f = c.loop-i.invariant in
-    let ways = c.binomial_in-ways.ensures in
-    record { fits = product_low to refl f _ ways }
-
-pub overflow_add-before-in-loop-i : goal.overflow_add-before-in-loop-i
-overflow_add-before-in-loop-i t c =
-    let to = c.requires.to_fill in
-    let f = c.loop-i.invariant in
-    omega (arith, sum_small to refl f)
+pub overflow_add-next : goal.overflow_add-next
+overflow_add-next t c =
+    let none : length c.in-Some.later.now ≡ 0 = eqb-true _ _ (sym c.if-is_empty.ensures) in
+    omega (arith, cell_inside c.in-Some.ensures.cases.0 c.requires c.loop-i.invariant c.loop-i-test.true c.binomial.ensures c.loop-i.auto.out none)
 
 pub fill-next-requires : goal.fill-next-requires
-fill-next-requires t c =
-    let to = c.requires.to_fill in
-    let f = c.loop-i.invariant in
-    let ways = c.binomial_in-ways.ensures in
-    (omega (arith, c.requires.rows_are, f.inside), ((c.requires.rows_are.0, omega (arith, c.if-k-loads.false, f.inside)), deeper to refl f _ ways))
-
-pub returns-then-i-high : goal.returns-then-i-high
-returns-then-i-high t c =
-    let to = c.requires.to_fill in
-    let f = c.loop-i.invariant in
-    let ways = c.binomial_in-ways.ensures in
-    let both = filled to refl f _ ways _ c.fill-next.new.out c.fill-next.ensures.next_place c.fill-next.ensures.written c.if-i-high.true in record { next_place = both.0; written = both.1 }
-
-pub overflow_mul-power-in-loop-i : goal.overflow_mul-power-in-loop-i
-overflow_mul-power-in-loop-i t c =
-    let to = c.requires.to_fill in
-    let f = c.loop-i.invariant in
-    record { fits = power_more_low to refl f (omega (arith, f.index)) }
-
-pub overflow_add-i : goal.overflow_add-i
-overflow_add-i t c =
-    let to = c.requires.to_fill in
-    let f = c.loop-i.invariant in
-    omega (arith, index_small to refl f)
-
-pub loop-i-smaller : goal.loop-i-smaller
-loop-i-smaller t c = omega (arith, c.loop-i.invariant.index)
+fill-next-requires t c = (
+  omega (arith, c.in-Some.ensures.cases.1),
+  deeper c.in-Some.ensures.cases.0 c.requires c.loop-i.invariant c.loop-i-test.true c.binomial.ensures c.loop-i.auto.out,
+)
 
 pub loop-i-preserved : goal.loop-i-preserved
 loop-i-preserved t c =
-    let to = c.requires.to_fill in
-    let f = c.loop-i.invariant in
-    let ways = c.binomial_in-ways.ensures in
-    filling_more to refl f _ ways _ c.fill-next.new.out c.fill-next.ensures.next_place c.fill-next.ensures.written (omega (arith, f.index)) (omega (arith, c.fill-next.auto.out))
+    elim c.if-is_empty.branch [
+      | then-is_empty w ↦
+          let none : length c.in-Some.later.now ≡ 0 = eqb-true _ _ (sym w.if-is_empty.ensures) in
+          let inside = cell_inside c.in-Some.ensures.cases.0 c.requires c.loop-i.invariant c.loop-i-test.true c.binomial.ensures c.loop-i.auto.out none in
+          rw (w.next-is, w.out-is)
+          (filling_stored c.in-Some.ensures.cases.0 c.requires c.loop-i.invariant c.loop-i-test.true c.binomial.ensures refl none inside refl)
+      | else-is_empty w ↦
+          rw (w.next-is, w.out-is)
+          (filling_more c.in-Some.ensures.cases.0 c.requires c.loop-i.invariant c.loop-i-test.true c.binomial.ensures
+          w.fill-next.ensures.next_place w.fill-next.ensures.written refl)
+    ]
+
+pub returns-after-loop-i-clause-next_place : goal.returns-after-loop-i-clause-next_place
+returns-after-loop-i-clause-next_place t c =
+    (filling_end c.in-Some.ensures.cases.0 c.requires c.loop-i.invariant c.loop-i.auto.i-end c.loop-i-test.false).0
+
+pub returns-after-loop-i-clause-written : goal.returns-after-loop-i-clause-written
+returns-after-loop-i-clause-written t c =
+    (filling_end c.in-Some.ensures.cases.0 c.requires c.loop-i.invariant c.loop-i.auto.i-end c.loop-i-test.false).1

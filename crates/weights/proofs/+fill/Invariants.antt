@@ -1,17 +1,11 @@
--- `fill` meets its contract, by recursion on the chains that are left, down to `fill_last`. Each turn of the loop writes the cells with one
--- number of messages of chain k; what it asks for and leaves is in FillingLaws.
-use Prim.Native.Nat.{◌-◌}
+-- `fill` meets its contract, by recursion on the chains that are left. Each turn of the loop writes the cells with i messages of the
+-- first of them; what it asks for and leaves is in FillLaws.
 use lib.ListN.{length}
-use Rattle.weights.proofs.FillingLaws.{Filling}
+use Rattle.weights.proofs.FillLaws.{Filling}
 use Rattle.weights.proofs.+fill.Given as goal
 
 abbrev pub decreases-fill : goal.decreases-fill
-decreases-fill l = length l.loads.now - l.k
+decreases-fill l = length l.chains.now
 
 abbrev pub invariant-loop-i : goal.invariant-loop-i
-invariant-loop-i l =
-    Filling l.loads l.lows l.highs l.k l.acc l.before l.at l.initial.out l.load l.high l.i l.power l.next l.out
-
-abbrev pub decreases-loop-i : goal.decreases-loop-i
-decreases-loop-i l =
-    l.high - l.i
+invariant-loop-i l = Filling l.chain l.later l.acc l.before l.at l.initial.out l.i l.power l.next l.out

@@ -1,11 +1,10 @@
--- `exact_power` meets its contract: the product fits, so the other answer does not come.
+-- `exact_power` meets its contract: the product fits.
 use mathlib.Core.Path.{sym, ◌∙◌}
-use native.Mathlib.Omega.{arith}
-use Rattle.arith.proofs.CappedLaws.{exact_says, large_says}
+use Rattle.arith.proofs.CappedLaws.{capped_exact, exact_says}
 use Rattle.weights.proofs.exact_power.Goals as goal
 
-pub returns-in-Some : goal.returns-in-Some
-returns-in-Some c = (exact_says (sym c.times_power.ensures ∙ c.in-Some.is)).is
+pub unwrap-requires : goal.unwrap-requires
+unwrap-requires c = rw (c.times_power.ensures ∙ capped_exact c.requires)
 
-pub returns-in-None : goal.returns-in-None
-returns-in-None c = absurd (omega (arith, large_says (sym c.times_power.ensures ∙ c.in-None.is)))
+pub returns : goal.returns
+returns c = (exact_says (sym c.times_power.ensures ∙ c.unwrap.ensures)).is

@@ -1,18 +1,11 @@
 -- `some_too_large` meets its contract: the weight at the highest index tells of all.
-use mathlib.Core.Path.{sym, ◌∙◌}
-use borrow.Author.Tests.{lt-leb, le-leb}
-use Rattle.arith.proofs.CappedLaws.{exact_says, large_says}
 use Rattle.weights.proofs.MonotonyLaws.{fits_of}
-use Rattle.weights.proofs.BetweenLaws.{some_is_top}
+use Rattle.weights.proofs.BetweenLaws.{highs_absent, highs-length, some_is_top, too_large_is}
+use mathlib.Core.Path.{sym, ◌∙◌}
 use Rattle.weights.proofs.some_too_large.Goals as goal
 
-pub weight_of-requires : goal.weight_of-requires
-weight_of-requires c =
-    let ends = c.requires.leaf_ends in
-    record { rows_are = c.requires.rows_are; few_chains = (ends.few, ends.windows); on_route = fits_of c.args.loads.now c.args.highs.now ends.highs_length ends.absent }
+pub weight_of-requires-clause-on_route : goal.weight_of-requires-clause-on_route
+weight_of-requires-clause-on_route c = fits_of _ _ (highs-length c.args.chains.now) (highs_absent c.args.chains.now c.requires.sound)
 
-pub returns-in-Some : goal.returns-in-Some
-returns-in-Some c = sym (some_is_top c.requires.leaf_ends ∙ lt-leb _ _ (exact_says (sym c.weight_of.ensures ∙ c.in-Some.is)).low)
-
-pub returns-in-None : goal.returns-in-None
-returns-in-None c = sym (some_is_top c.requires.leaf_ends ∙ le-leb _ _ (large_says (sym c.weight_of.ensures ∙ c.in-None.is)))
+pub returns : goal.returns
+returns c = too_large_is _ c.weight_of.ensures c.is_none.ensures ∙ sym (some_is_top c.args.chains.now c.requires.sound)

@@ -4,8 +4,8 @@ use Rattle.weights.proofs.PowerLaws.{then_exact, then_large}
 use Rattle.weights.proofs.WeightLaws.{binomial_pos}
 use Rattle.weights.proofs.times_chain.Goals as goal
 
-pub returns-in-Some : goal.returns-in-Some
-returns-in-Some c = c.mul.ensures ∙ then_exact _ _ (sym c.times_power.ensures ∙ c.in-Some.is) c.binomial_in.ensures
+pub returns-in_err-power : goal.returns-in_err-power
+returns-in_err-power c = c.from_residual.ensures ∙ sym (then_large _ _ (binomial_pos c.args.before c.args.n) (sym c.times_power.ensures ∙ c.in_err-power.was))
 
-pub returns-in-None : goal.returns-in-None
-returns-in-None c = sym (then_large _ _ (binomial_pos c.args.before c.args.n) (sym c.times_power.ensures ∙ c.in-None.is))
+pub returns : goal.returns
+returns c = c.mul.ensures ∙ then_exact _ _ (sym c.times_power.ensures ∙ c.in_ok-power.was) c.binomial.ensures
