@@ -2,7 +2,7 @@
 // values, and bytes put in between. What is expected was written by another reading of the scope document (tools/reference.py).
 #![tactic(auto)]
 
-ghost use Rattle.std.specs.Prelude.{◌≤◌};
+ghost use Rattle.std.specs.Prelude.{◌≤◌, length};
 
 use calls::PlanAnswer;
 use std::io;
@@ -31,7 +31,7 @@ fn head(rt: &impl Print, damage: char, at: usize, value: usize) -> io::Result<()
 
 // B up to a place.
 fn front(rt: &impl Print, at: usize) -> io::Result<()>
-    requires { at ≤ 38 }
+    requires { at ≤ length B }
 {
     head(rt, 'f', at, 0)?;
     answer(rt, &B[..at], 0)
@@ -52,7 +52,7 @@ fn set(rt: &impl Print, at: usize) -> io::Result<()> {
 
 // B with one byte more at a place, a kind of record.
 fn put(rt: &impl Print, at: usize, kind: u8) -> io::Result<()>
-    requires { at ≤ 38 }
+    requires { at ≤ length B }
 {
     let mut file = [kind; 39];
     file[..at].copy_from_slice(&B[..at]);
@@ -62,7 +62,7 @@ fn put(rt: &impl Print, at: usize, kind: u8) -> io::Result<()>
 }
 
 fn all(rt: &impl Print, at: usize) -> io::Result<()>
-    requires { at ≤ 38 }
+    requires { at ≤ length B }
 {
     front(rt, at)?;
     set(rt, at)?;
@@ -77,7 +77,7 @@ fn main(rt: HostRuntime) -> io::Result<()> {
         head(&rt, 'l', 0, 0)?;
         answer(&rt, &B, lower)?;
     }
-    for at in 0..=38 {
+    for at in 0..=B.len() {
         all(&rt, at)?;
     }
     Ok(())
