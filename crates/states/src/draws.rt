@@ -6,6 +6,7 @@ use crate::model::Model;
 use std::ops::RangeInclusive;
 
 // What models are drawn from.
+#[derive(Drop)]
 pub struct Shape {
     pub centres: RangeInclusive<u16>,
     pub chains: RangeInclusive<u16>,
@@ -18,6 +19,7 @@ pub struct Shape {
 }
 
 // The last number drawn.
+#[derive(Drop)]
 pub struct Draws {
     last: u64,
 }

@@ -10,7 +10,7 @@ fn with_load(model: &Model, load: u16) -> Model {
 }
 
 fn is_below(table: &mut Table, model: &Model) -> bool {
-    table.fill(model) && matches!(value(table, model), Ok(Some(_)))
+    table.fill(model).is_ok() && matches!(value(table, model), Ok(Some(_)))
 }
 
 // The last load up to 65535 with a value below 2^64, by its binary digits from the highest on; 0 if there is none.

@@ -4,16 +4,12 @@
 ghost use Rattle.std.specs.Prelude.{◌<◌};
 
 use crate::model::{CENTRES, CHAINS, Model};
-use crate::table::Table;
+use crate::table::{LeftOut, Table};
 
 type State = [[u16; CHAINS]; CENTRES];
 
 // The most states.
 const STATES: usize = 3000;
-
-// A model with more states.
-#[derive(Clone, Copy)]
-pub struct TooManyStates;
 
 // All messages at home.
 fn first_state(model: &Model) -> State {
@@ -65,7 +61,7 @@ fn state_weight(table: &Table, model: &Model, state: &State) -> Option<u64> {
 }
 
 // G(N), by the table of a model with these windows or larger ones; None if that is 2^64 or more.
-pub fn value(table: &Table, model: &Model) -> Result<Option<u64>, TooManyStates> {
+pub fn value(table: &Table, model: &Model) -> Result<Option<u64>, LeftOut> {
     let mut state = first_state(model);
     let mut sum = Some(0);
     for _ in 0..STATES {
@@ -77,7 +73,7 @@ pub fn value(table: &Table, model: &Model) -> Result<Option<u64>, TooManyStates>
             return Ok(sum);
         }
     }
-    Err(TooManyStates)
+    Err(LeftOut)
 }
 
 fn add_weight(sum: u64, weight: Option<u64>) -> Option<u64> {

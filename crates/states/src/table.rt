@@ -8,6 +8,10 @@ use crate::model::{CHAINS, Model};
 // The most entries, of all centres together.
 const ENTRIES: usize = 8192;
 
+// A model that is left out: it has too many weights or states.
+#[derive(Clone, Copy)]
+pub struct LeftOut;
+
 // A chain's digit in an index: what one message adds, and its window + 1.
 #[derive(Clone, Copy)]
 struct Digit {
@@ -30,6 +34,7 @@ impl Digit {
 }
 
 // `size` entries for each centre; a weight of 2^64 or more is None.
+#[derive(Drop)]
 pub struct Table {
     digits: [Digit; CHAINS],
     size: usize,
@@ -57,18 +62,17 @@ impl Table {
         self.size = step;
     }
 
-    // Whether the table has room for the model; then it is filled.
-    pub fn fill(&mut self, model: &Model) -> bool {
+    pub fn fill(&mut self, model: &Model) -> Result<(), LeftOut> {
         self.set_digits(model);
         if ENTRIES < self.size.saturating_mul(model.centres) {
-            return false;
+            return Err(LeftOut);
         }
         let digits = self.digits;
         let centres = self.weights.chunks_exact_mut(self.size);
         for (weights, loads) in centres.zip(&model.loads).take(model.centres) {
             fill_centre(weights, &digits, loads);
         }
-        true
+        Ok(())
     }
 
     // The weight of a centre's messages.

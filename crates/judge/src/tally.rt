@@ -1,0 +1,77 @@
+// What is counted.
+use states::values::Due;
+use std::fmt;
+
+#[derive(Clone, Copy)]
+pub enum Count {
+    Models,
+    Trees,
+    Runs,
+    Values,
+    // values of 2^64 or more, and those below it from 2^63 on
+    Large,
+    Below,
+    // models with a value below 2^64 that reaches it when one load is larger by 1
+    Edges,
+    Differences,
+}
+
+// A number for each `Count`.
+#[derive(Clone, Copy)]
+pub struct Tally([u64; 8]);
+
+impl Tally {
+    pub fn new() -> Tally {
+        Tally([0; 8])
+    }
+
+    pub fn counted(&self, what: Count) -> u64 {
+        self.0[what as usize]
+    }
+
+    pub fn count(&mut self, what: Count) {
+        let n = self.counted(what);
+        self.0[what as usize] = n.saturating_add(1);
+    }
+
+    // What is as due, and what is not.
+    pub fn hold(&mut self, what: Count, agrees: bool) {
+        self.count(what);
+        if !agrees {
+            self.count(Count::Differences);
+        }
+    }
+
+    fn count_value(&mut self, value: Option<u64>) {
+        self.count(Count::Values);
+        match value {
+            None => self.count(Count::Large),
+            Some(v) if 1 << 63 <= v => self.count(Count::Below),
+            Some(_) => {}
+        }
+    }
+
+    // The values of runs: none of them is 0.
+    pub fn count_values(&mut self, due: &Due) {
+        for value in due {
+            if *value != Some(0) {
+                self.count_value(*value);
+            }
+        }
+    }
+
+    pub fn add(&mut self, other: &Tally) {
+        for (k, n) in other.0.iter().enumerate() {
+            self.0[k] = self.0[k].saturating_add(*n);
+        }
+    }
+}
+
+impl fmt::Display for Tally {
+    fn fmt<W: fmt::Write>(&self, f: &mut fmt::Formatter<W>) -> fmt::Result {
+        for n in &self.0 {
+            write!(f, " {n}")?;
+        }
+        Ok(())
+    }
+}
