@@ -2,7 +2,7 @@
 
 ghost use Rattle.std.specs.Prelude.{◌≤◌, ◌<◌, ◌^◌, max};
 
-use crate::model::Model;
+use crate::model::{CENTRES, CHAINS, Model};
 use std::ops::RangeInclusive;
 
 // What models are drawn from.
@@ -46,8 +46,8 @@ impl Draws {
 
     // A model, and a number by chance for its trees.
     pub fn model(&mut self, shape: &Shape) -> (Model, u64) {
-        let centres = usize::from(self.within(&shape.centres)).clamp(1, 16);
-        let chains = usize::from(self.within(&shape.chains)).min(8);
+        let centres = usize::from(self.within(&shape.centres)).clamp(1, CENTRES);
+        let chains = usize::from(self.within(&shape.chains)).min(CHAINS);
         let mut model = Model::new(centres, chains);
         self.draw_chains(shape, &mut model);
         self.draw_loads(shape, &mut model);
@@ -63,8 +63,8 @@ impl Draws {
 
     // A chain visits its home, and each other centre by chance.
     fn draw_loads(&mut self, shape: &Shape, model: &mut Model) {
-        for c in 0..16 {
-            for k in 0..8 {
+        for c in 0..CENTRES {
+            for k in 0..CHAINS {
                 let by_chance = self.below(16) < shape.visits;
                 let load = self.within(&shape.loads);
                 let is_visited = by_chance || model.chains[k].home == c;

@@ -1,6 +1,7 @@
 // What a model has.
 
 ghost use Rattle.std.specs.Prelude.{◌<◌, ◌≤◌};
+ghost use Rattle.states.specs.declared.model.TheConstants.{CENTRES, CHAINS};
 
 // The most centres and chains.
 pub const CENTRES: usize = 16;
@@ -12,7 +13,7 @@ pub const CHAINS: usize = 8;
 pub struct Chain {
     pub window: u16,
     pub home: usize,
-    ghost home_is_centre: { home < 16 },
+    ghost home_is_centre: { home < CENTRES },
 }
 
 // Of `chains`, those past the first `chain_count` have window 0. The load of a chain at a centre is `loads[centre][chain]`, 0 where it does not
@@ -24,16 +25,16 @@ pub struct Model {
     pub chains: [Chain; CHAINS],
     pub loads: [[u16; CHAINS]; CENTRES],
     ghost some_centre: { 0 < centres },
-    ghost few_centres: { centres ≤ 16 },
-    ghost few_chains: { chain_count ≤ 8 },
+    ghost few_centres: { centres ≤ CENTRES },
+    ghost few_chains: { chain_count ≤ CHAINS },
 }
 
 impl Model {
     // No chain has a message or visits.
-    pub fn new(centres: usize, chain_count: usize) -> Model
+    pub(crate) fn new(centres: usize, chain_count: usize) -> Model
         requires some_centre { 0 < centres }
-        requires few_centres { centres ≤ 16 }
-        requires few_chains { chain_count ≤ 8 }
+        requires few_centres { centres ≤ CENTRES }
+        requires few_chains { chain_count ≤ CHAINS }
     {
         Model {
             centres,
@@ -43,30 +44,32 @@ impl Model {
         }
     }
 
-    fn set_window(&mut self, k: usize, window: u16)
-        requires { k < 8 }
+    pub(crate) fn set_window(&mut self, k: usize, window: u16)
+        requires { k < CHAINS }
     {
         self.chains[k].window = window;
     }
 
     // A chain visits a centre, which becomes its home.
     fn visit_last(&mut self, c: usize, k: usize, load: u16)
-        requires centre { c < 16 }
-        requires chain { k < 8 }
+        requires centre { c < CENTRES }
+        requires chain { k < CHAINS }
     {
         self.loads[c][k] = load;
         self.chains[k].home = c;
     }
 
-    // The model with a chain's window one less; 0 lowers none.
-    pub fn lowered(&self, lower: usize) -> Model {
+    // The model with a chain's window one less, if it has messages; 0 lowers none.
+    pub(crate) fn lowered(&self, lower: usize) -> Option<Model>
+        requires { lower ≤ CHAINS }
+    {
         let mut model = *self;
-        for (k, chain) in model.chains.iter_mut().enumerate() {
-            if k + 1 == lower {
-                chain.window = chain.window.saturating_sub(1);
-            }
+        if lower != 0 {
+            let k = lower - 1;
+            let window = model.chains[k].window.checked_sub(1)?;
+            model.set_window(k, window);
         }
-        model
+        Some(model)
     }
 
     // The first centre with the largest sum of loads.
@@ -97,7 +100,7 @@ pub struct Given {
 impl Given {
     // A chain's home is the last centre that it visits.
     pub fn model(&self) -> Model {
-        let mut model = Model::new(self.centres.clamp(1, 3), self.chains.min(2));
+        let mut model = Model::new(self.centres.clamp(1, CENTRES), self.chains.min(CHAINS));
         for (k, window) in self.windows.iter().enumerate() {
             model.set_window(k, *window);
         }

@@ -62,7 +62,7 @@ impl Table {
         self.size = step;
     }
 
-    pub fn fill(&mut self, model: &Model) -> Result<(), LeftOut> {
+    pub(crate) fn fill(&mut self, model: &Model) -> Result<(), LeftOut> {
         self.set_digits(model);
         if ENTRIES < self.size.saturating_mul(model.centres) {
             return Err(LeftOut);
@@ -76,7 +76,7 @@ impl Table {
     }
 
     // The weight of a centre's messages.
-    pub fn weight(&self, centre: usize, messages: &[u16; CHAINS]) -> Option<u64> {
+    pub(crate) fn weight(&self, centre: usize, messages: &[u16; CHAINS]) -> Option<u64> {
         let mut index = centre.saturating_mul(self.size);
         for (digit, n) in self.digits.iter().zip(messages) {
             index = index.saturating_add(digit.step.saturating_mul(usize::from(*n)));
