@@ -1,4 +1,7 @@
 // What a run and a sheet tell, and whether it is what is due.
+ghost use Rattle.std.specs.Prelude.{IsTrue, ◌↔◌};
+ghost use Rattle.judge.specs.Due.{IsCleared, Tells};
+
 use calls::SheetAnswer;
 use states::model::Model;
 use states::values::Due;
@@ -32,7 +35,9 @@ pub struct Run {
 
 impl Run {
     // Where the chain to lower has window 0, the value due is 0.
-    pub fn is_due(self, due: Option<u64>) -> bool {
+    pub fn is_due(self, due: Option<u64>) -> bool
+        ensures { IsTrue result ↔ (IsTrue self.kept × Tells self due) }
+    {
         let told = self.told;
         self.kept
             && match due {
@@ -66,7 +71,9 @@ pub fn budget(pairs: u64, slots: u64) -> u64 {
 }
 
 // Whether the model's cells are 0 and the one past them is as it was.
-pub fn is_cleared(area: &[u64], cells: u64, foreign: u64) -> bool {
+pub fn is_cleared(area: &[u64], cells: u64, foreign: u64) -> bool
+    ensures { IsTrue result ↔ IsCleared area.now cells foreign }
+{
     match area.split_at_checked(cells as usize) {
         Some((model, [past, ..])) => *past == foreign && model.iter().all(|cell| *cell == 0),
         _ => false,
