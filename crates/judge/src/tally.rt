@@ -1,4 +1,7 @@
 // What is counted.
+ghost use Rattle.std.specs.Prelude.{◌≡◌, slice_index};
+ghost use Rattle.judge.specs.Counts.{counted, held, place};
+
 use states::values::Due;
 use std::fmt;
 
@@ -25,17 +28,23 @@ impl Tally {
         Tally([0; 8])
     }
 
-    pub fn counted(&self, what: Count) -> u64 {
+    pub fn counted(&self, what: Count) -> u64
+        ensures { result ≡ slice_index self.now.0 (place what) }
+    {
         self.0[what as usize]
     }
 
-    pub fn count(&mut self, what: Count) {
+    pub fn count(&mut self, what: Count)
+        ensures { self.new.0 ≡ counted self.old.0 what }
+    {
         let n = self.counted(what);
         self.0[what as usize] = n.saturating_add(1);
     }
 
     // What is as due, and what is not.
-    pub fn hold(&mut self, what: Count, agrees: bool) {
+    pub fn hold(&mut self, what: Count, agrees: bool)
+        ensures { self.new.0 ≡ held self.old.0 what agrees }
+    {
         self.count(what);
         if !agrees {
             self.count(Count::Differences);
