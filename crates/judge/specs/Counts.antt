@@ -1,5 +1,5 @@
--- A tally with one more of what is counted; the counts stay at 2^64 - 1.
-use Rattle.std.specs.Prelude.{ℕ, ◌+◌, ◌-◌, ◌^◌, List, min, slice_index, slice_set, Bool, true, false}
+-- What a tally has once more is counted; a count stays at 2^64 - 1.
+use Rattle.std.specs.Prelude.{ℕ, ◌+◌, ◌-◌, ◌^◌, ◌==◌, nat_le, List, [], ◌∷◌, Option, None, Some, min, slice_index, slice_set, Bool, true, false, if◌then◌else◌}
 use Rattle.judge.specs.declared.tally.Count.{Count}
 use Rattle.judge.specs.declared.tally.Count.TheVariants.{Models, Trees, Runs, Values, Large, Below, Edges, Differences}
 
@@ -20,3 +20,12 @@ counted counts what = slice_set counts (place what) (min (slice_index counts (pl
 abbrev pub held : List ℕ → Count → Bool → List ℕ
 held counts what true = counted counts what
 held counts what false = counted (counted counts what) Differences
+
+-- The value of a run, which is not 0.
+abbrev pub value_counted : List ℕ → Option ℕ → List ℕ
+value_counted counts None = counted (counted counts Values) Large
+value_counted counts (Some v) = (if v == 0 then counts else (if nat_le (2 ^ 63) v then counted (counted counts Values) Below else counted counts Values))
+
+abbrev pub values_counted : List ℕ → List (Option ℕ) → List ℕ
+values_counted counts [] = counts
+values_counted counts (value ∷ values) = values_counted (value_counted counts value) values

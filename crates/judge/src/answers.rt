@@ -1,5 +1,5 @@
 // What a run and a sheet tell, and whether it is what is due.
-ghost use Rattle.std.specs.Prelude.{IsTrue, ◌↔◌};
+ghost use Rattle.std.specs.Prelude.{◌≡◌, ◌≢◌, ◌*◌, ◌<◌, ◌↔◌, IsTrue};
 ghost use Rattle.judge.specs.Due.{IsCleared, Tells};
 
 use calls::SheetAnswer;
@@ -66,7 +66,10 @@ impl Run {
 }
 
 // With these budgets so many slots reach the last pair.
-pub fn budget(pairs: u64, slots: u64) -> u64 {
+pub fn budget(pairs: u64, slots: u64) -> u64
+    ensures four { slots ≡ 4 → pairs < 4 * result }
+    ensures other { slots ≢ 4 → result ≡ pairs }
+{
     if slots == 4 { pairs / 4 + 1 } else { pairs }
 }
 

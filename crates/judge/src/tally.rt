@@ -1,6 +1,6 @@
 // What is counted.
 ghost use Rattle.std.specs.Prelude.{◌≡◌, slice_index};
-ghost use Rattle.judge.specs.Counts.{counted, held, place};
+ghost use Rattle.judge.specs.Counts.{counted, held, place, value_counted, values_counted};
 
 use states::values::Due;
 use std::fmt;
@@ -51,7 +51,13 @@ impl Tally {
         }
     }
 
-    fn count_value(&mut self, value: Option<u64>) {
+    // The value of a run is not 0.
+    fn count_value(&mut self, value: Option<u64>)
+        ensures { self.new.0 ≡ value_counted self.old.0 value }
+    {
+        if value == Some(0) {
+            return;
+        }
         self.count(Count::Values);
         match value {
             None => self.count(Count::Large),
@@ -60,12 +66,11 @@ impl Tally {
         }
     }
 
-    // The values of runs: none of them is 0.
-    pub fn count_values(&mut self, due: &Due) {
+    pub fn count_values(&mut self, due: &Due)
+        ensures { self.new.0 ≡ values_counted self.old.0 due.now }
+    {
         for value in due {
-            if *value != Some(0) {
-                self.count_value(*value);
-            }
+            self.count_value(*value);
         }
     }
 

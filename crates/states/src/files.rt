@@ -4,11 +4,24 @@ ghost use Rattle.std.specs.Prelude.{◌<◌};
 use crate::model::Model;
 use arrayvec::ArrayVec;
 
+// The kinds of records.
+#[derive(Clone, Copy)]
+enum Kind {
+    Size = 1,
+    Window,
+    Load,
+    Leaf,
+    Join,
+    End,
+}
+
 // The longest file has fewer bytes.
 pub type File = ArrayVec<u8, 720>;
 
-// Each leaf joined at once, or subtrees of as many leaves joined.
+// Patterns: each leaf joined at once, all leaves first, and subtrees of as many leaves joined.
 const AT_ONCE: u64 = 0x5555_5555_5555_5555;
+
+const ALL_LEAVES_FIRST: u64 = 0;
 
 const AS_MANY: u64 = 0x0484_c484;
 
@@ -22,51 +35,36 @@ pub struct Tree {
 }
 
 impl Tree {
-    // The leaves in order from a centre on, each joined at once.
-    pub fn in_order(first: u64) -> Tree {
+    fn new(pattern: u64, step: u64, turn: u64) -> Tree {
         Tree {
-            pattern: AT_ONCE,
-            step: 1,
-            turn: first,
+            pattern,
+            step,
+            turn,
         }
     }
 
-    // The trees that are tried: with the leaves in order, and in an order by chance. The joins come after each leaf, or after all (in the second
-    // case by chance), or of subtrees of as many leaves.
+    // The leaves in order from a centre on, each joined at once.
+    pub fn in_order(first: u64) -> Tree {
+        Tree::new(AT_ONCE, 1, first)
+    }
+
+    // The trees that are tried: with the leaves in order, and in an order by chance. Each leaf is joined at once, or all leaves come first (in an
+    // order by chance the joins are by chance too), or subtrees of as many leaves are joined.
     pub fn tried(chance: u64) -> [Tree; 6] {
+        let by_chance = chance.saturating_mul(48271);
         let step = chance % 16 + 1;
         let turn = chance / 16 % 17;
         [
             Tree::in_order(1),
-            Tree {
-                pattern: 0,
-                step: 1,
-                turn: 1,
-            },
-            Tree {
-                pattern: AS_MANY,
-                step: 1,
-                turn: 1,
-            },
-            Tree {
-                pattern: AT_ONCE,
-                step,
-                turn,
-            },
-            Tree {
-                pattern: chance.saturating_mul(48271),
-                step,
-                turn,
-            },
-            Tree {
-                pattern: AS_MANY,
-                step,
-                turn,
-            },
+            Tree::new(ALL_LEAVES_FIRST, 1, 1),
+            Tree::new(AS_MANY, 1, 1),
+            Tree::new(AT_ONCE, step, turn),
+            Tree::new(by_chance, step, turn),
+            Tree::new(AS_MANY, step, turn),
         ]
     }
 
-    // A centre's number, or one past them.
+    // The number of a centre, which the model may not have; 0 for none.
     fn leaf(self, i: u64) -> u64
         ensures { result < 17 }
     {
@@ -74,15 +72,17 @@ impl Tree {
     }
 }
 
-fn push(file: &mut File, numbers: &[u16]) {
-    for x in numbers {
+// A record's fields, of a byte each.
+fn push(file: &mut File, kind: Kind, fields: &[u16]) {
+    let _ = file.try_push(kind as u8);
+    for x in fields {
         let _ = file.try_push((*x % 256) as u8);
     }
 }
 
 fn push_windows(file: &mut File, model: &Model) {
     for (k, chain) in model.chains.iter().enumerate().take(model.chain_count) {
-        push(file, &[2, k as u16 + 1, chain.window]);
+        push(file, Kind::Window, &[k as u16 + 1, chain.window]);
     }
 }
 
@@ -90,7 +90,7 @@ fn push_loads(file: &mut File, model: &Model) {
     for (c, loads) in model.loads.iter().enumerate() {
         for (k, load) in loads.iter().enumerate() {
             if *load != 0 {
-                push(file, &[3, c as u16 + 1, k as u16 + 1, *load / 256, *load]);
+                push(file, Kind::Load, &[c as u16 + 1, k as u16 + 1, *load / 256, *load]);
             }
         }
     }
@@ -105,7 +105,7 @@ fn push_tree(file: &mut File, tree: Tree, centres: u64) {
         if centre == 0 || centres < centre {
             continue;
         }
-        push(file, &[4, centre as u16]);
+        push(file, Kind::Leaf, &[centre as u16]);
         leaves += 1;
         let joins = if leaves == centres {
             open
@@ -113,7 +113,7 @@ fn push_tree(file: &mut File, tree: Tree, centres: u64) {
             (pattern % 4).min(open)
         };
         for _ in 0..joins {
-            push(file, &[5]);
+            push(file, Kind::Join, &[]);
         }
         open = open + 1 - joins;
         pattern /= 4;
@@ -124,11 +124,12 @@ pub fn file_of(model: &Model, tree: Tree) -> File {
     let mut file = ArrayVec::new();
     push(
         &mut file,
-        &[1, model.centres as u16, model.chain_count as u16],
+        Kind::Size,
+        &[model.centres as u16, model.chain_count as u16],
     );
     push_windows(&mut file, model);
     push_loads(&mut file, model);
     push_tree(&mut file, tree, model.centres as u64);
-    push(&mut file, &[6]);
+    push(&mut file, Kind::End, &[]);
     file
 }
