@@ -29,3 +29,7 @@ value_counted counts (Some v) = (if v == 0 then counts else (if nat_le (2 ^ 63) 
 abbrev pub values_counted : List ℕ → List (Option ℕ) → List ℕ
 values_counted counts [] = counts
 values_counted counts (value ∷ values) = values_counted (value_counted counts value) values
+
+-- What two tallies have of one thing.
+abbrev pub sum_at : List ℕ → List ℕ → ℕ → ℕ
+sum_at counts more k = min (slice_index counts k + slice_index more k) (2 ^ 64 - 1)

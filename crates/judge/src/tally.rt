@@ -1,6 +1,6 @@
 // What is counted.
-ghost use Rattle.std.specs.Prelude.{◌≡◌, slice_index};
-ghost use Rattle.judge.specs.Counts.{counted, held, place, value_counted, values_counted};
+ghost use Rattle.std.specs.Prelude.{◌≡◌, ℕ, ◌<◌, replicate, slice_index};
+ghost use Rattle.judge.specs.Counts.{counted, held, place, sum_at, value_counted, values_counted};
 
 use states::values::Due;
 use std::fmt;
@@ -24,7 +24,9 @@ pub enum Count {
 pub struct Tally([u64; 8]);
 
 impl Tally {
-    pub fn new() -> Tally {
+    pub fn new() -> Tally
+        ensures { result.0 ≡ replicate 8 0 }
+    {
         Tally([0; 8])
     }
 
@@ -74,7 +76,9 @@ impl Tally {
         }
     }
 
-    pub fn add(&mut self, other: &Tally) {
+    pub fn add(&mut self, other: &Tally)
+        ensures { (k : ℕ) → k < 8 → slice_index self.new.0 k ≡ sum_at self.old.0 other.now.0 k }
+    {
         for (k, n) in other.0.iter().enumerate() {
             self.0[k] = self.0[k].saturating_add(*n);
         }
