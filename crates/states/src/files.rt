@@ -90,7 +90,11 @@ fn push_loads(file: &mut File, model: &Model) {
     for (c, loads) in model.loads.iter().enumerate() {
         for (k, load) in loads.iter().enumerate() {
             if *load != 0 {
-                push(file, Kind::Load, &[c as u16 + 1, k as u16 + 1, *load / 256, *load]);
+                push(
+                    file,
+                    Kind::Load,
+                    &[c as u16 + 1, k as u16 + 1, *load / 256, *load],
+                );
             }
         }
     }

@@ -1,6 +1,7 @@
 // What a model has.
 
-ghost use Rattle.std.specs.Prelude.{◌<◌, ◌≤◌};
+ghost use Rattle.std.specs.Prelude.{◌≡◌, ◌<◌, ◌≤◌, sum};
+ghost use Rattle.states.specs.Busiest.{busiest};
 ghost use Rattle.states.specs.declared.model.TheConstants.{CENTRES, CHAINS};
 
 // The most centres and chains.
@@ -73,20 +74,30 @@ impl Model {
     }
 
     // The first centre with the largest sum of loads.
-    pub fn busiest(&self) -> u64 {
-        let mut busiest = 1;
+    pub fn busiest(&self) -> u64
+        ensures { result ≡ busiest self.now.loads }
+    {
+        let mut best = 1;
         let mut most = 0;
         for (c, loads) in self.loads.iter().enumerate() {
-            let sum = loads
-                .iter()
-                .fold(0u64, |sum, load| sum.saturating_add(u64::from(*load)));
+            let sum = sum_of(loads);
             if most < sum {
                 most = sum;
-                busiest = c as u64 + 1;
+                best = c as u64 + 1;
             }
         }
-        busiest
+        best
     }
+}
+
+fn sum_of(loads: &[u16; CHAINS]) -> u64
+    ensures { result ≡ sum loads.now }
+{
+    let mut sum = 0;
+    for load in loads {
+        sum += u64::from(*load);
+    }
+    sum
 }
 
 // A model of at most two chains and three centres: how many of each, the windows, and by centre the loads of the two chains.
