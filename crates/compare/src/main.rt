@@ -28,7 +28,7 @@ struct Case<'a> {
     is_line: bool,
 }
 
-// Room for the second opinion and for the calls, and what is counted, for one shape and in all.
+// Room for the second opinion, and for the calls with one cell past what any run needs; what is counted, for one shape and in all.
 #[derive(Drop)]
 struct Comparison {
     table: Table,
@@ -113,7 +113,8 @@ impl Comparison {
     // Models drawn by chance. One centre has one tree.
     fn hold_shape(&mut self, rt: &impl Print, shape: &Shape) -> io::Result<()> {
         let mut draws = Draws::new();
-        for _ in 0..if shape.edges { DRAWN / 2 } else { DRAWN } {
+        let times = if shape.edges { DRAWN / 2 } else { DRAWN };
+        for _ in 0..times {
             let (model, chance) = draws.model(shape);
             let trees = Tree::tried(chance);
             let count = if model.centres == 1 { 1 } else { trees.len() };
