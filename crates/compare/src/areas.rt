@@ -1,42 +1,31 @@
 // What the scope document says of B's area: its cells after some pairs, and how many it needs.
 use crate::told::{advanced, started};
-use judge::texts::{say, tell, tell_all};
-use states::files::{BYTES, front, tree_of, write_file};
-use states::memory::LENGTH;
+use judge::lines::B;
+use states::files::{Tree, file_of};
 use std::io;
 
 fn tell_area(rt: &impl Print, file: &[u8], pairs: u64) -> io::Result<()> {
-    let mut area = [7u64; 12];
-    tell(rt, b"B's area after", pairs)?;
-    started(file, 0, &mut area);
+    let mut area = [7; 12];
+    let _ = started(file, 0, &mut area);
     advanced(file, 0, 0, pairs, &mut area);
-    say(rt, b":")?;
-    tell_all(rt, &area, 0, 11)
+    print!(rt; "B's area after {pairs}:")?;
+    for cell in &area[..11] {
+        print!(rt; " {cell}")?;
+    }
+    print!(rt; "\n")
 }
 
-fn tell_areas(rt: &impl Print, file: &[u8]) -> io::Result<()> {
-    tell_area(rt, file, 0)?;
-    tell_area(rt, file, 1)?;
-    tell_area(rt, file, 3)?;
-    tell_area(rt, file, 6)
+fn tell_room(rt: &impl Print, file: &[u8], area: &mut [u64]) -> io::Result<()> {
+    let cells = area.len();
+    let refusal = started(file, 0, area).err().unwrap_or(0);
+    println!(rt; "B in {cells} cells: refused {refusal}")
 }
 
-fn tell_room(rt: &impl Print, file: &[u8]) -> io::Result<()> {
-    let mut short = [7u64; 10];
-    let mut enough = [7u64; 11];
-    tell(rt, b"B in 10 cells: refused", started(file, 0, &mut short))?;
-    tell(
-        rt,
-        b"\nB in 11 cells: refused",
-        started(file, 0, &mut enough),
-    )?;
-    say(rt, b"\n")
-}
-
-pub fn tell_b(rt: &impl Print, m: &mut [u64; LENGTH]) -> io::Result<()> {
-    let mut file = [0u8; BYTES];
-    judge::lines::give_b(m);
-    let n = write_file(&mut file, m, tree_of(m, 0));
-    tell_areas(rt, front(&file, n))?;
-    tell_room(rt, front(&file, n))
+pub fn tell_b(rt: &impl Print) -> io::Result<()> {
+    let file = file_of(&B.model(), Tree::in_order(1));
+    for pairs in [0, 1, 3, 6] {
+        tell_area(rt, file.as_slice(), pairs)?;
+    }
+    tell_room(rt, file.as_slice(), &mut [7; 10])?;
+    tell_room(rt, file.as_slice(), &mut [7; 11])
 }

@@ -4,86 +4,160 @@
 mod areas; // areas.rt: B's area, pair by pair
 mod told; // told.rt: what the calls tell
 
-use judge::answers::{judge_run, tell_line};
-use judge::texts::{say, tell_all};
-use states::counts::{COUNTS, MODELS, count};
-use states::files::{BYTES, Tree, front, tree_of, trees, write_file};
-use states::memory::{CHAINS, LENGTH, TOTAL, at};
-use states::values::find_values;
+use judge::answers::{Sheet, is_cleared, sheet_due};
+use judge::lines::LINES;
+use judge::shapes::shapes;
+use judge::tally::{Count, Tally};
+use states::draws::{Draws, Shape};
+use states::edges::both_sides;
+use states::files::{Tree, file_of};
+use states::model::Model;
+use states::table::Table;
+use states::values::{Due, find_values};
 use std::io;
+use told::FOREIGN;
 
-// Each run in one slot and in four.
-fn hold_runs(
-    rt: &impl Print,
-    m: &mut [u64; LENGTH],
-    file: &[u8],
-    area: &mut [u64],
-) -> io::Result<()> {
-    let chains = at(m, CHAINS, 0);
-    let mut lower: u64 = 0;
-    while lower < 9 {
-        if chains < lower {
-            return Ok(());
+// The models drawn of each shape, two by two where they come by two.
+const DRAWN: usize = 80;
+
+// A model with what is due. The lines of the scope document are told.
+#[derive(Clone, Copy)]
+struct Case<'a> {
+    model: &'a Model,
+    due: Due,
+    is_line: bool,
+}
+
+// Room for the second opinion, and for the calls with one cell past what any run needs; what is counted, for one shape and in all.
+#[derive(Drop)]
+struct Comparison {
+    table: Table,
+    area: [u64; 8193],
+    tally: Tally,
+    total: Tally,
+}
+
+impl Comparison {
+    fn new() -> Comparison {
+        Comparison {
+            table: Table::new(),
+            area: [7; 8193],
+            tally: Tally::new(),
+            total: Tally::new(),
         }
-        judge_run(m, lower, told::run(file, lower, 4, area));
-        let r = told::run(file, lower, 1, area);
-        judge_run(m, lower, r);
-        tell_line(rt, m, lower, r)?;
-        lower += 1;
     }
-    Ok(())
-}
 
-fn hold_tree(rt: &impl Print, m: &mut [u64; LENGTH], t: Tree, area: &mut [u64]) -> io::Result<()> {
-    let mut file = [0u8; BYTES];
-    let n = write_file(&mut file, m, t);
-    hold_runs(rt, m, front(&file, n), area)?;
-    told::hold_sheet(m, front(&file, n), area);
-    Ok(())
-}
-
-fn hold_trees(rt: &impl Print, m: &mut [u64; LENGTH], area: &mut [u64]) -> io::Result<()> {
-    let count = trees(m);
-    let mut i: u64 = 0;
-    while i < count {
-        hold_tree(rt, m, tree_of(m, i), area)?;
-        i += 1;
+    // Each run in one slot and in four.
+    fn hold_runs(&mut self, rt: &impl Print, case: &Case, file: &[u8]) -> io::Result<()> {
+        for lower in 0..=case.model.chain_count {
+            let due = case.due[lower];
+            let in_four = told::run(file, lower as u64, 4, &mut self.area);
+            self.tally.hold(Count::Runs, in_four.is_due(due));
+            let at_once = told::run(file, lower as u64, 1, &mut self.area);
+            self.tally.hold(Count::Runs, at_once.is_due(due));
+            if case.is_line {
+                at_once.tell(rt, lower, due)?;
+            }
+        }
+        Ok(())
     }
-    Ok(())
-}
 
-// A model with too many states is left out.
-fn hold_model(rt: &impl Print, m: &mut [u64; LENGTH], area: &mut [u64]) -> io::Result<()> {
-    if find_values(m) {
-        hold_trees(rt, m, area)?;
-        count(m, MODELS);
+    // The sheet, which clears the model's cells and leaves the one past them.
+    fn hold_sheet(&mut self, case: &Case, file: &[u8]) {
+        let plan = told::planned(file, 0);
+        told::mark(&mut self.area, plan.cells);
+        let sheet = Sheet::from(ratesheet::sheet(file, &mut self.area));
+        let agrees = sheet == sheet_due(case.model, &case.due, plan)
+            && is_cleared(&self.area, plan.cells, FOREIGN);
+        self.tally.hold(Count::Trees, agrees);
     }
-    Ok(())
-}
 
-fn hold_all(rt: &impl Print, m: &mut [u64; LENGTH], area: &mut [u64]) -> io::Result<()> {
-    let mut j: u64 = 0;
-    while j < judge::MODELS {
-        judge::begin(rt, m, j)?;
-        hold_model(rt, m, area)?;
-        judge::end(rt, m, j)?;
-        j += 1;
+    // What is due, if the model is not left out.
+    fn hold(
+        &mut self,
+        rt: &impl Print,
+        model: &Model,
+        trees: &[Tree],
+        is_line: bool,
+    ) -> io::Result<Option<Due>> {
+        let Ok(due) = find_values(&mut self.table, model) else {
+            return Ok(None);
+        };
+        self.tally.count_values(&due);
+        let case = Case {
+            model,
+            due,
+            is_line,
+        };
+        for tree in trees {
+            let file = file_of(model, *tree);
+            self.hold_runs(rt, &case, file.as_slice())?;
+            self.hold_sheet(&case, file.as_slice());
+        }
+        self.tally.count(Count::Models);
+        Ok(Some(due))
     }
-    Ok(())
-}
 
-fn tell_total(rt: &impl Print, m: &[u64; LENGTH]) -> io::Result<()> {
-    say(
-        rt,
-        b"models trees runs values large below edges differences:\nall shapes and lines",
-    )?;
-    tell_all(rt, m, TOTAL, COUNTS)
+    // Two models on both sides of 2^64.
+    fn hold_two(&mut self, rt: &impl Print, model: &Model, trees: &[Tree]) -> io::Result<()> {
+        let [below, above] = both_sides(&mut self.table, model);
+        let below = self.hold(rt, &below, trees, false)?;
+        let above = self.hold(rt, &above, trees, false)?;
+        let is_below = below.is_some_and(|due| due[0].is_some());
+        if is_below && above.is_some_and(|due| due[0].is_none()) {
+            self.tally.count(Count::Edges);
+        }
+        Ok(())
+    }
+
+    // Models drawn by chance. One centre has one tree.
+    fn hold_shape(&mut self, rt: &impl Print, shape: &Shape) -> io::Result<()> {
+        let mut draws = Draws::new();
+        let times = if shape.edges { DRAWN / 2 } else { DRAWN };
+        for _ in 0..times {
+            let (model, chance) = draws.model(shape);
+            let trees = Tree::tried(chance);
+            let count = if model.centres == 1 { 1 } else { trees.len() };
+            if shape.edges {
+                self.hold_two(rt, &model, &trees[..count])?;
+            } else {
+                self.hold(rt, &model, &trees[..count], false)?;
+            }
+        }
+        Ok(())
+    }
+
+    // Counts anew, with what was counted in the total.
+    fn end_tally(&mut self) {
+        let tally = self.tally;
+        self.total.add(&tally);
+        self.tally = Tally::new();
+    }
 }
 
 fn main(rt: HostRuntime) -> io::Result<()> {
-    let mut m = [0u64; LENGTH];
-    let mut area = [7u64; 8193];
-    areas::tell_b(&rt, &mut m)?;
-    hold_all(&rt, &mut m, &mut area)?;
-    tell_total(&rt, &m)
+    areas::tell_b(&rt)?;
+    let mut comparison = Comparison::new();
+    for line in &LINES {
+        print!(&rt; "{:.<52}", line.name)?;
+        comparison.hold(
+            &rt,
+            &line.given.model(),
+            &[Tree::in_order(line.first)],
+            true,
+        )?;
+        println!(&rt;
+            "\n  differences {}",
+            comparison.tally.counted(Count::Differences)
+        )?;
+        comparison.end_tally();
+    }
+    for (name, shape) in &shapes() {
+        print!(&rt; "{name:30}")?;
+        comparison.hold_shape(&rt, shape)?;
+        println!(&rt; "{}", comparison.tally)?;
+        comparison.end_tally();
+    }
+    println!(&rt; "models trees runs values large below edges differences:")?;
+    println!(&rt; "all shapes and lines{}", comparison.total)
 }

@@ -1,177 +1,139 @@
 // What a run and a sheet tell, and whether it is what is due.
-use crate::cells::cell;
-use crate::texts::{say, tell, tell_value};
+ghost use Rattle.std.specs.Prelude.{◌≡◌, ◌≢◌, ◌*◌, ◌<◌, ◌↔◌, IsTrue};
+ghost use Rattle.judge.specs.Due.{IsCleared, Tells};
+
 use calls::SheetAnswer;
-use states::counts::{DIFFERENCES, RUNS, TREES, count};
-use states::memory::{CHAINS, DUES, FIRST, LENGTH, MOST, at};
-use states::values::busiest;
+use states::model::Model;
+use states::values::Due;
 use std::io;
 
-// A plan, and what a run by it tells in the end; refusals are 0 where nothing is refused. `kept` is whether the cell past the model's was left.
+// The numbers of two refusals.
+const NOTHING_TO_LOWER: u64 = 11;
+
+pub const TOO_LARGE: u64 = 14;
+
 #[derive(Clone, Copy)]
-pub struct Run {
+pub struct Plan {
     pub pairs: u64,
     pub cells: u64,
-    pub refusal: u64,
+}
+
+// The number done, and the value, or the number of the refusal.
+#[derive(Clone, Copy, PartialEq)]
+pub struct Told {
     pub done: u64,
-    pub value: u64,
+    pub value: Result<u64, u64>,
+}
+
+// A plan, what a run by it tells in the end, and whether the cell past the model's was left.
+#[derive(Clone, Copy)]
+pub struct Run {
+    pub plan: Plan,
+    pub told: Told,
     pub kept: bool,
 }
 
-fn difference(m: &mut [u64; LENGTH], what: u64, agrees: bool) {
-    count(m, what);
-    if !agrees {
-        count(m, DIFFERENCES);
+impl Run {
+    // Where the chain to lower has window 0, the value due is 0.
+    pub fn is_due(self, due: Option<u64>) -> bool
+        ensures { IsTrue result ↔ (IsTrue self.kept × Tells self due) }
+    {
+        let told = self.told;
+        self.kept
+            && match due {
+                None => told.value == Err(TOO_LARGE),
+                Some(0) => told.value == Err(NOTHING_TO_LOWER),
+                Some(value) => {
+                    told == Told {
+                        done: self.plan.pairs,
+                        value: Ok(value),
+                    }
+                }
+            }
     }
-}
 
-// Where the chain to lower has window 0, the value due is 0.
-fn is_due(r: Run, due: u64) -> bool {
-    if !r.kept {
-        return false;
-    }
-    if due == 0 {
-        return r.refusal == 11;
-    }
-    if due == MOST {
-        return r.refusal == 14;
-    }
-    if r.refusal != 0 {
-        return false;
-    }
-    if r.done != r.pairs {
-        return false;
-    }
-    r.value == due
-}
-
-fn tell_plan(rt: &impl Print, m: &[u64; LENGTH], lower: u64, r: Run) -> io::Result<()> {
-    tell(rt, b"\n  lowered", lower)?;
-    tell(rt, b": pairs", r.pairs)?;
-    tell(rt, b" cells", r.cells)?;
-    say(rt, b" states")?;
-    tell_value(rt, at(m, DUES, lower))
-}
-
-fn tell_run(rt: &impl Print, r: Run) -> io::Result<()> {
-    tell(rt, b" run", r.value)?;
-    tell(rt, b" done", r.done)?;
-    tell(rt, b" refused", r.refusal)
-}
-
-pub fn judge_run(m: &mut [u64; LENGTH], lower: u64, r: Run) {
-    let agrees = is_due(r, at(m, DUES, lower));
-    difference(m, RUNS, agrees);
-}
-
-// The lines of the scope document are told.
-pub fn tell_line(rt: &impl Print, m: &[u64; LENGTH], lower: u64, r: Run) -> io::Result<()> {
-    if at(m, FIRST, 0) != 0 {
-        tell_plan(rt, m, lower, r)?;
-        tell_run(rt, r)?;
-    }
-    Ok(())
-}
-
-fn all_zero(area: &[u64], cells: u64) -> bool {
-    let mut i: u64 = 0;
-    while i < cells {
-        if cell(area, i) != 0 {
-            return false;
+    pub fn tell(self, rt: &impl Print, lower: usize, due: Option<u64>) -> io::Result<()> {
+        let Plan { pairs, cells } = self.plan;
+        print!(rt; "\n  lowered {lower}: pairs {pairs} cells {cells} states")?;
+        match due {
+            None => print!(rt; " 2^64 or more")?,
+            Some(value) => print!(rt; " {value}")?,
         }
-        i += 1;
+        let value = self.told.value.unwrap_or(0);
+        let refusal = self.told.value.err().unwrap_or(0);
+        print!(rt; " run {value} done {} refused {refusal}", self.told.done)
     }
-    true
-}
-
-// Whether the model's cells are 0 and the one past them is as it was.
-pub fn is_cleared(area: &[u64], cells: u64, foreign: u64) -> bool {
-    if cell(area, cells) != foreign {
-        return false;
-    }
-    all_zero(area, cells)
 }
 
 // With these budgets so many slots reach the last pair.
-pub fn budget(pairs: u64, slots: u64) -> u64 {
-    if slots == 4 {
-        return pairs / 4 + 1;
-    }
-    pairs
+pub fn budget(pairs: u64, slots: u64) -> u64
+    ensures four { slots ≡ 4 → pairs < 4 * result }
+    ensures other { slots ≢ 4 → result ≡ pairs }
+{
+    if slots == 4 { pairs / 4 + 1 } else { pairs }
 }
 
-// Past the chains the values due are 0, as the numerators are.
-fn same_numerators(m: &[u64; LENGTH], numerators: [u64; 8]) -> bool {
-    let mut k: usize = 0;
-    while k < 8 {
-        if numerators[k] != at(m, DUES, k as u64 + 1) {
-            return false;
+// Whether the model's cells are 0 and the one past them is as it was.
+pub fn is_cleared(area: &[u64], cells: u64, foreign: u64) -> bool
+    ensures { IsTrue result ↔ IsCleared area.now cells foreign }
+{
+    match area.split_at_checked(cells as usize) {
+        Some((model, [past, ..])) => *past == foreign && model.iter().all(|cell| *cell == 0),
+        _ => false,
+    }
+}
+
+// The fields of an answer, which can be compared.
+#[derive(Clone, Copy, PartialEq, Default)]
+pub struct Sheet {
+    refusal: u64,
+    place: u64,
+    value: u64,
+    pairs: u64,
+    cells: u64,
+    chains: u64,
+    numerators: [u64; 8],
+    busiest: u64,
+}
+
+impl From<SheetAnswer> for Sheet {
+    fn from(answer: SheetAnswer) -> Sheet {
+        let numerators = answer.numerators;
+        Sheet {
+            refusal: answer.refusal,
+            place: answer.place,
+            value: answer.value,
+            pairs: answer.pairs,
+            cells: answer.cells,
+            chains: answer.chains,
+            numerators,
+            busiest: answer.busiest,
         }
-        k += 1;
     }
-    true
 }
 
-fn same_counts(m: &[u64; LENGTH], a: SheetAnswer, r: Run) -> bool {
-    if a.pairs != r.pairs {
-        return false;
+// The sheet due, if no value is 2^64 or more. Past the chains the values due are 0, as the numerators are.
+fn accepted(model: &Model, due: &Due, plan: Plan) -> Option<Sheet> {
+    let mut numerators = [0; 8];
+    for (k, value) in due[1..].iter().enumerate() {
+        numerators[k] = (*value)?;
     }
-    if a.cells != r.cells {
-        return false;
-    }
-    if a.chains != at(m, CHAINS, 0) {
-        return false;
-    }
-    a.busiest == busiest(m)
+    Some(Sheet {
+        refusal: 0,
+        place: 0,
+        value: due[0]?,
+        pairs: plan.pairs,
+        cells: plan.cells,
+        chains: model.chain_count as u64,
+        numerators,
+        busiest: model.busiest(),
+    })
 }
 
 // "A refusal returns zeros beside its number and place."
-fn is_too_large(a: SheetAnswer) -> bool {
-    if a.refusal != 14 {
-        return false;
-    }
-    if a.place != 0 {
-        return false;
-    }
-    if a.value != 0 {
-        return false;
-    }
-    if a.pairs != 0 {
-        return false;
-    }
-    if a.cells != 0 {
-        return false;
-    }
-    if a.chains != 0 {
-        return false;
-    }
-    a.busiest == 0
-}
-
-fn is_sheet(m: &[u64; LENGTH], a: SheetAnswer, r: Run) -> bool {
-    let due = at(m, DUES, 0);
-    if due == MOST {
-        return is_too_large(a);
-    }
-    if a.refusal != 0 {
-        return false;
-    }
-    if a.value != due {
-        return false;
-    }
-    let numerators = a.numerators;
-    if !same_numerators(m, numerators) {
-        return false;
-    }
-    same_counts(m, a, r)
-}
-
-// `p` has the plan; `cleared` is whether the cells are as they have to be.
-pub fn judge_sheet(m: &mut [u64; LENGTH], a: SheetAnswer, p: Run, cleared: bool) {
-    if !cleared {
-        difference(m, TREES, false);
-        return;
-    }
-    let agrees = is_sheet(m, a, p);
-    difference(m, TREES, agrees);
+pub fn sheet_due(model: &Model, due: &Due, plan: Plan) -> Sheet {
+    accepted(model, due, plan).unwrap_or(Sheet {
+        refusal: TOO_LARGE,
+        ..Sheet::default()
+    })
 }

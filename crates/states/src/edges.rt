@@ -1,72 +1,32 @@
 // Two models on both sides of 2^64, which differ by 1 in the load of chain 1 at its home.
-use crate::memory::{DUES, HOMES, LENGTH, LOADS, LOW, MOST, SIDE, add, at, plus, put, times};
+use crate::model::Model;
 use crate::odometer::value;
-use crate::table::fill_table;
+use crate::table::Table;
 
-// Where the load is.
-fn place(m: &[u64; LENGTH]) -> u64 {
-    times(at(m, HOMES, 0), 8)
+fn with_load(model: &Model, load: u16) -> Model {
+    let mut model = *model;
+    model.loads[model.chains[0].home][0] = load;
+    model
 }
 
-fn set_load(m: &mut [u64; LENGTH], load: u64) {
-    let i = place(m);
-    put(m, LOADS, i, load);
-}
-
-// The load with a digit more, if its value is below 2^64.
-fn raised(m: &mut [u64; LENGTH], load: u64, digit: u64) -> u64 {
-    let more = plus(load, digit);
-    set_load(m, more);
-    if !fill_table(m) {
-        return load;
-    }
-    if value(m, 0) < MOST { more } else { load }
+fn is_below(table: &mut Table, model: &Model) -> bool {
+    table.fill(model).is_ok() && matches!(value(table, model), Ok(Some(_)))
 }
 
 // The last load up to 65535 with a value below 2^64, by its binary digits from the highest on; 0 if there is none.
-fn last_below(m: &mut [u64; LENGTH]) -> u64 {
-    let mut load: u64 = 0;
-    let mut digit: u64 = 65536;
-    while 1 < digit {
-        digit = digit / 2;
-        load = raised(m, load, digit);
+fn last_below(table: &mut Table, model: &Model) -> u16 {
+    let mut load = 0;
+    for j in 0u32..16 {
+        let more = load | 32768 >> j;
+        if is_below(table, &with_load(model, more)) {
+            load = more;
+        }
     }
     load
 }
 
-// A load has one that is smaller and one that is larger.
-fn inner(load: u64) -> u64 {
-    if load == 0 {
-        return 1;
-    }
-    if load < 65535 { load } else { 65534 }
-}
-
-pub fn first_side(m: &mut [u64; LENGTH]) {
-    let load = inner(last_below(m));
-    set_load(m, load);
-    put(m, SIDE, 0, 1);
-}
-
-pub fn second_side(m: &mut [u64; LENGTH]) {
-    let low = at(m, DUES, 0);
-    put(m, LOW, 0, low);
-    let i = place(m);
-    add(m, LOADS, i, 1);
-    put(m, SIDE, 0, 2);
-}
-
-// Whether the model at hand is the second one, and 2^64 lies between the two values.
-pub fn is_edge(m: &[u64; LENGTH]) -> bool {
-    if at(m, SIDE, 0) != 2 {
-        return false;
-    }
-    if at(m, DUES, 0) != MOST {
-        return false;
-    }
-    let low = at(m, LOW, 0);
-    if low == 0 {
-        return false;
-    }
-    low < MOST
+// The first has the last load below 2^64, the second one more, as far as there are such.
+pub fn both_sides(table: &mut Table, model: &Model) -> [Model; 2] {
+    let load = last_below(table, model).clamp(1, 65534);
+    [with_load(model, load), with_load(model, load + 1)]
 }

@@ -2,11 +2,10 @@
 // no coverage, tree or pair. The program `compare` holds the calls against it.
 #![tactic(auto)]
 
-pub mod counts; // counts.rt: what is counted
-pub mod draws; // draws.rt: models drawn by chance, and given ones
+pub mod draws; // draws.rt: models drawn by chance
 pub mod edges; // edges.rt: the load at which a value reaches 2^64
 pub mod files; // files.rt: the bytes of a model with a tree
-pub mod memory; // memory.rt: where everything is kept
+pub mod model; // model.rt: what a model has
 pub mod odometer; // odometer.rt: the sum over all states
 pub mod table; // table.rt: the weights of each centre
 pub mod values; // values.rt: the values due

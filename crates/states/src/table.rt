@@ -1,75 +1,112 @@
 // A table of weights for each centre, by the recurrence: the weight of no messages is 1, and otherwise it is the sum, over the chains that have a message
 // there, of the chain's load times the weight with one message of that chain less.
-use crate::memory::{
-    CENTRES, LENGTH, LOADS, SIZE, STEPS, TABLE, WINDOWS, add, at, clear, minus, plus, put, times,
-};
 
-// A chain's step is the product of the windows + 1 of those before it.
-fn set_steps(m: &mut [u64; LENGTH]) {
-    let mut size: u64 = 1;
-    let mut k: u64 = 0;
-    while k < 8 {
-        put(m, STEPS, k, size);
-        size = times(size, plus(at(m, WINDOWS, k), 1));
-        k += 1;
-    }
-    put(m, SIZE, 0, size);
+ghost use Rattle.std.specs.Prelude.{◌<◌, ◌≤◌, length, IfSome};
+
+use crate::model::{CHAINS, Model};
+
+// The most entries, of all centres together.
+const ENTRIES: usize = 8192;
+
+// A model that is left out: it has too many weights or states.
+#[derive(Clone, Copy)]
+pub struct LeftOut;
+
+// A chain's digit in an index: what one message adds, and its window + 1.
+#[derive(Clone, Copy)]
+struct Digit {
+    step: usize,
+    radix: usize,
+    ghost step_is_positive: { 0 < step },
+    ghost radix_is_positive: { 0 < radix },
 }
 
-// How many messages a chain has at an index.
-pub fn messages(m: &[u64; LENGTH], index: u64, k: u64) -> u64 {
-    let step = at(m, STEPS, k);
-    let window = at(m, WINDOWS, k);
-    if step == 0 {
-        return 0;
-    }
-    if window < 16 {
-        return index / step % (window + 1);
-    }
-    0
-}
-
-fn term(m: &[u64; LENGTH], entry: u64, c: u64, k: u64) -> u64 {
-    let load = at(m, LOADS, plus(times(c, 8), k));
-    times(load, at(m, TABLE, minus(entry, at(m, STEPS, k))))
-}
-
-// What a chain adds to the entry of an index at a centre.
-fn add_term(m: &mut [u64; LENGTH], entry: u64, c: u64, index: u64, k: u64) {
-    if index == 0 {
-        put(m, TABLE, entry, 1);
-        return;
-    }
-    if messages(m, index, k) == 0 {
-        return;
-    }
-    let x = term(m, entry, c, k);
-    add(m, TABLE, entry, x);
-}
-
-fn add_terms(m: &mut [u64; LENGTH], entries: u64, size: u64) {
-    if size == 0 {
-        return;
-    }
-    let mut j: u64 = 0;
-    while j < 65536 {
-        if entries <= j / 8 {
-            return;
+impl Digit {
+    // The index with one message of the chain less, if it has one.
+    fn less(self, index: usize) -> Option<usize>
+        ensures { IfSome result (λ n. n < index) }
+    {
+        if index / self.step % self.radix == 0 {
+            return None;
         }
-        add_term(m, j / 8, j / 8 / size, j / 8 % size, j % 8);
-        j += 1;
+        index.checked_sub(self.step)
     }
 }
 
-// Whether the table has room for the model; then it is filled.
-pub fn fill_table(m: &mut [u64; LENGTH]) -> bool {
-    set_steps(m);
-    let size = at(m, SIZE, 0);
-    let entries = times(size, at(m, CENTRES, 0));
-    if 8192 < entries {
-        return false;
+// `size` entries for each centre; a weight of 2^64 or more is None.
+#[derive(Drop)]
+pub struct Table {
+    digits: [Digit; CHAINS],
+    size: usize,
+    weights: [Option<u64>; ENTRIES],
+    ghost size_is_positive: { 0 < size },
+}
+
+impl Table {
+    pub fn new() -> Table {
+        Table {
+            digits: [Digit { step: 1, radix: 1 }; CHAINS],
+            size: 1,
+            weights: [None; ENTRIES],
+        }
     }
-    clear(m, TABLE, entries);
-    add_terms(m, entries, size);
-    true
+
+    // A chain's step is the product of the windows + 1 of those before it.
+    fn set_digits(&mut self, model: &Model) {
+        let mut step: usize = 1;
+        for (k, chain) in model.chains.iter().enumerate() {
+            let radix = usize::from(chain.window) + 1;
+            self.digits[k] = Digit { step, radix };
+            step = step.saturating_mul(radix);
+        }
+        self.size = step;
+    }
+
+    pub(crate) fn fill(&mut self, model: &Model) -> Result<(), LeftOut> {
+        self.set_digits(model);
+        if ENTRIES < self.size.saturating_mul(model.centres) {
+            return Err(LeftOut);
+        }
+        let digits = self.digits;
+        let centres = self.weights.chunks_exact_mut(self.size);
+        for (weights, loads) in centres.zip(&model.loads).take(model.centres) {
+            fill_centre(weights, &digits, loads);
+        }
+        Ok(())
+    }
+
+    // The weight of a centre's messages.
+    pub(crate) fn weight(&self, centre: usize, messages: &[u16; CHAINS]) -> Option<u64> {
+        let mut index = centre.saturating_mul(self.size);
+        for (digit, n) in self.digits.iter().zip(messages) {
+            index = index.saturating_add(digit.step.saturating_mul(usize::from(*n)));
+        }
+        self.weights.get(index).copied().flatten()
+    }
+}
+
+fn fill_centre(weights: &mut [Option<u64>], digits: &[Digit; CHAINS], loads: &[u16; CHAINS]) {
+    for index in 0..weights.len() {
+        weights[index] = next_weight(&weights[..index], digits, loads);
+    }
+}
+
+// The weight that comes after those before it.
+fn next_weight(
+    before: &[Option<u64>],
+    digits: &[Digit; CHAINS],
+    loads: &[u16; CHAINS],
+) -> Option<u64> {
+    if before.is_empty() {
+        return Some(1);
+    }
+    let mut sum = 0;
+    for (digit, load) in digits.iter().zip(loads) {
+        if *load != 0
+            && let Some(less) = digit.less(before.len())
+        {
+            sum = arith::mul_add(sum, u64::from(*load), before[less]?)?;
+        }
+    }
+    Some(sum)
 }

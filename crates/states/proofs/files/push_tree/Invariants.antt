@@ -1,9 +1,6 @@
--- The nodes counted stay at most 32.
-use Prim.Native.Nat.{◌-◌, ◌≤◌}
+-- There are no more leaves than turns, and no more open subtrees than leaves.
+use Prim.Native.Nat.{◌≤◌}
 use Rattle.states.proofs.files.push_tree.Given as goal
 
 abbrev pub invariant-loop-i : goal.invariant-loop-i
-invariant-loop-i l = l.i ≤ 32
-
-abbrev pub decreases-loop-i : goal.decreases-loop-i
-decreases-loop-i l = 32 - l.i
+invariant-loop-i l = (l.leaves ≤ l.i) × (l.open ≤ l.leaves)

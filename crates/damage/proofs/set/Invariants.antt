@@ -1,9 +1,0 @@
--- The index stays below the number of values.
-use Prim.Native.Nat.{◌-◌, ◌≤◌}
-use Rattle.damage.proofs.set.Given as goal
-
-abbrev pub invariant-loop-i : goal.invariant-loop-i
-invariant-loop-i g l = l.i ≤ 12
-
-abbrev pub decreases-loop-i : goal.decreases-loop-i
-decreases-loop-i g l = 12 - l.i

@@ -1,9 +1,0 @@
--- The index stays within the numerators.
-use Prim.Native.Nat.{◌-◌, ◌≤◌}
-use Rattle.sheet.proofs.chains.Given as goal
-
-abbrev pub invariant-loop-k : goal.invariant-loop-k
-invariant-loop-k g l = l.k ≤ 8
-
-abbrev pub decreases-loop-k : goal.decreases-loop-k
-decreases-loop-k g l = 8 - l.k
