@@ -1,12 +1,12 @@
 // What the scope document says of B's area: its cells after some pairs, and how many it needs.
-use crate::told::{advanced, started};
+use crate::told::advanced;
 use judge::lines::B;
 use states::files::{Tree, file_of};
 use std::io;
 
 fn tell_area(rt: &impl Print, file: &[u8], pairs: u64) -> io::Result<()> {
     let mut area = [7; 12];
-    let _ = started(file, 0, &mut area);
+    let _ = runs::start(file, 0, &mut area);
     advanced(file, 0, 0, pairs, &mut area);
     print!(rt; "B's area after {pairs}:")?;
     for cell in &area[..11] {
@@ -17,8 +17,9 @@ fn tell_area(rt: &impl Print, file: &[u8], pairs: u64) -> io::Result<()> {
 
 fn tell_room(rt: &impl Print, file: &[u8], area: &mut [u64]) -> io::Result<()> {
     let cells = area.len();
-    let refusal = started(file, 0, area).err().unwrap_or(0);
-    println!(rt; "B in {cells} cells: refused {refusal}")
+    let refusal = runs::start(file, 0, area).err();
+    let number = refusal.map_or(0, |refusal| refusal.number());
+    println!(rt; "B in {cells} cells: refused {number}")
 }
 
 pub fn tell_b(rt: &impl Print) -> io::Result<()> {

@@ -4,7 +4,7 @@
 mod areas; // areas.rt: B's area, pair by pair
 mod told; // told.rt: what the calls tell
 
-use judge::answers::{Sheet, is_cleared, sheet_due};
+use judge::answers::{is_cleared, sheet_due};
 use judge::lines::LINES;
 use judge::shapes::shapes;
 use judge::tally::{Count, Tally};
@@ -66,7 +66,7 @@ impl Comparison {
     fn hold_sheet(&mut self, case: &Case, file: &[u8]) {
         let plan = told::planned(file, 0);
         told::mark(&mut self.area, plan.cells);
-        let sheet = Sheet::from(ratesheet::sheet(file, &mut self.area));
+        let sheet = ratesheet::sheet(file, &mut self.area);
         let agrees = sheet == sheet_due(case.model, &case.due, plan)
             && is_cleared(&self.area, plan.cells, FOREIGN);
         self.tally.hold(Count::Trees, agrees);

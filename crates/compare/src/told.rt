@@ -1,38 +1,27 @@
 // What plan, start and advance tell of a file.
-use calls::{AdvanceAnswer, PlanAnswer, StartAnswer};
-use judge::answers::{Plan, Run, TOO_LARGE, Told, budget};
+use calls::{Advanced, Halted, Planned, Refusal};
+use judge::answers::{Run, Told, budget};
 
 // What stands in the cell past the model's.
 pub const FOREIGN: u64 = 7777;
 
-pub fn planned(file: &[u8], lower: u64) -> Plan {
-    match plan::plan(file, lower) {
-        PlanAnswer::Planned { cells, pairs } => Plan { pairs, cells },
-        PlanAnswer::Refused { .. } => Plan { pairs: 0, cells: 0 },
-    }
-}
-
-// The number of the refusal where there is one.
-pub fn started(file: &[u8], lower: u64, area: &mut [u64]) -> Result<(), u64> {
-    match runs::start(file, lower, area) {
-        StartAnswer::Started => Ok(()),
-        StartAnswer::Refused { number, .. } => Err(number),
-    }
+pub fn planned(file: &[u8], lower: u64) -> Planned {
+    plan::plan(file, lower).unwrap_or(Planned { cells: 0, pairs: 0 })
 }
 
 pub fn advanced(file: &[u8], lower: u64, done: u64, budget: u64, area: &mut [u64]) -> Told {
     match runs::advance::advance(file, lower, done, budget, area) {
-        AdvanceAnswer::Advanced { done, value } => Told {
+        Ok(Advanced { done, value }) => Told {
             done,
             value: Ok(value),
         },
-        AdvanceAnswer::Stopped { done } => Told {
+        Err(Halted::Stopped { done }) => Told {
             done,
-            value: Err(TOO_LARGE),
+            value: Err(Refusal::TooLarge),
         },
-        AdvanceAnswer::Refused { number, .. } => Told {
+        Err(Halted::Refused(refusal)) => Told {
             done: 0,
-            value: Err(number),
+            value: Err(refusal),
         },
     }
 }
@@ -41,7 +30,7 @@ pub fn advanced(file: &[u8], lower: u64, done: u64, budget: u64, area: &mut [u64
 fn in_slots(file: &[u8], lower: u64, budget: u64, slots: u64, area: &mut [u64]) -> Told {
     let mut told = Told {
         done: 0,
-        value: started(file, lower, area).map(|()| 0),
+        value: runs::start(file, lower, area).map(|()| 0),
     };
     if told.value.is_err() {
         return told;

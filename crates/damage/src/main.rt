@@ -4,7 +4,6 @@
 
 ghost use Rattle.std.specs.Prelude.{◌≤◌, length};
 
-use calls::PlanAnswer;
 use std::io;
 
 // B of the scope document.
@@ -19,8 +18,8 @@ const VALUES: [u8; 12] = [0, 1, 2, 3, 4, 5, 6, 7, 8, 16, 17, 255];
 // Number and place of a refusal, or 0 0 with cells and pairs.
 fn answer(rt: &impl Print, file: &[u8], lower: u64) -> io::Result<()> {
     match plan::plan(file, lower) {
-        PlanAnswer::Planned { cells, pairs } => println!(rt; " 0 0 {cells} {pairs}"),
-        PlanAnswer::Refused { number, place } => println!(rt; " {number} {place}"),
+        Ok(plan) => println!(rt; " 0 0 {} {}", plan.cells, plan.pairs),
+        Err(refusal) => println!(rt; " {} {}", refusal.number(), refusal.place()),
     }
 }
 

@@ -1,11 +1,12 @@
 -- What is due of a run, and of the area after a sheet.
 use Rattle.std.specs.Prelude.{◌≡◌, ◌≢◌, ℕ, ◌<◌, Option, None, Some, Ok, Err, List, length, take, slice_index, All}
+use Rattle.calls.specs.declared.Refusal.{Refusal}
 use Rattle.judge.specs.declared.answers.Run.{Run}
 
 -- "2^64 or more" is refused as too large, a chain with no messages to lower as such, and else all pairs are done and the value is the one due.
 abbrev pub Tells : Run → Option ℕ → Type 0
-Tells r None = r.told.value ≡ Err 14
-Tells r (Some v) = (v ≡ 0 → r.told.value ≡ Err 11) × (v ≢ 0 → (r.told.done ≡ r.plan.pairs) × (r.told.value ≡ Ok v))
+Tells r None = r.told.value ≡ Err Refusal.TooLarge
+Tells r (Some v) = (v ≡ 0 → r.told.value ≡ Err Refusal.WindowZero) × (v ≢ 0 → (r.told.done ≡ r.plan.pairs) × (r.told.value ≡ Ok v))
 
 -- The model's cells are 0, and the one past them is as it was.
 abbrev pub IsCleared : List ℕ → ℕ → ℕ → Type 0

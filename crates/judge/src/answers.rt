@@ -2,33 +2,22 @@
 ghost use Rattle.std.specs.Prelude.{◌≡◌, ◌≢◌, ◌*◌, ◌<◌, ◌↔◌, IsTrue};
 ghost use Rattle.judge.specs.Due.{IsCleared, Tells};
 
-use calls::SheetAnswer;
+use calls::{Planned, Refusal, Sheet};
 use states::model::Model;
 use states::values::Due;
 use std::io;
 
-// The numbers of two refusals.
-const NOTHING_TO_LOWER: u64 = 11;
-
-pub const TOO_LARGE: u64 = 14;
-
-#[derive(Clone, Copy)]
-pub struct Plan {
-    pub pairs: u64,
-    pub cells: u64,
-}
-
-// The number done, and the value, or the number of the refusal.
+// The number done, and the value or the refusal.
 #[derive(Clone, Copy, PartialEq)]
 pub struct Told {
     pub done: u64,
-    pub value: Result<u64, u64>,
+    pub value: Result<u64, Refusal>,
 }
 
 // A plan, what a run by it tells in the end, and whether the cell past the model's was left.
 #[derive(Clone, Copy)]
 pub struct Run {
-    pub plan: Plan,
+    pub plan: Planned,
     pub told: Told,
     pub kept: bool,
 }
@@ -41,8 +30,8 @@ impl Run {
         let told = self.told;
         self.kept
             && match due {
-                None => told.value == Err(TOO_LARGE),
-                Some(0) => told.value == Err(NOTHING_TO_LOWER),
+                None => told.value == Err(Refusal::TooLarge),
+                Some(0) => told.value == Err(Refusal::WindowZero),
                 Some(value) => {
                     told == Told {
                         done: self.plan.pairs,
@@ -53,14 +42,14 @@ impl Run {
     }
 
     pub fn tell(self, rt: &impl Print, lower: usize, due: Option<u64>) -> io::Result<()> {
-        let Plan { pairs, cells } = self.plan;
+        let Planned { pairs, cells } = self.plan;
         print!(rt; "\n  lowered {lower}: pairs {pairs} cells {cells} states")?;
         match due {
             None => print!(rt; " 2^64 or more")?,
             Some(value) => print!(rt; " {value}")?,
         }
         let value = self.told.value.unwrap_or(0);
-        let refusal = self.told.value.err().unwrap_or(0);
+        let refusal = self.told.value.err().map_or(0, |refusal| refusal.number());
         print!(rt; " run {value} done {} refused {refusal}", self.told.done)
     }
 }
@@ -83,44 +72,13 @@ pub fn is_cleared(area: &[u64], cells: u64, foreign: u64) -> bool
     }
 }
 
-// The fields of an answer, which can be compared.
-#[derive(Clone, Copy, PartialEq, Default)]
-pub struct Sheet {
-    refusal: u64,
-    place: u64,
-    value: u64,
-    pairs: u64,
-    cells: u64,
-    chains: u64,
-    numerators: [u64; 8],
-    busiest: u64,
-}
-
-impl From<SheetAnswer> for Sheet {
-    fn from(answer: SheetAnswer) -> Sheet {
-        let numerators = answer.numerators;
-        Sheet {
-            refusal: answer.refusal,
-            place: answer.place,
-            value: answer.value,
-            pairs: answer.pairs,
-            cells: answer.cells,
-            chains: answer.chains,
-            numerators,
-            busiest: answer.busiest,
-        }
-    }
-}
-
 // The sheet due, if no value is 2^64 or more. Past the chains the values due are 0, as the numerators are.
-fn accepted(model: &Model, due: &Due, plan: Plan) -> Option<Sheet> {
+fn accepted(model: &Model, due: &Due, plan: Planned) -> Option<Sheet> {
     let mut numerators = [0; 8];
     for (k, value) in due[1..].iter().enumerate() {
         numerators[k] = (*value)?;
     }
     Some(Sheet {
-        refusal: 0,
-        place: 0,
         value: due[0]?,
         pairs: plan.pairs,
         cells: plan.cells,
@@ -130,10 +88,6 @@ fn accepted(model: &Model, due: &Due, plan: Plan) -> Option<Sheet> {
     })
 }
 
-// "A refusal returns zeros beside its number and place."
-pub fn sheet_due(model: &Model, due: &Due, plan: Plan) -> Sheet {
-    accepted(model, due, plan).unwrap_or(Sheet {
-        refusal: TOO_LARGE,
-        ..Sheet::default()
-    })
+pub fn sheet_due(model: &Model, due: &Due, plan: Planned) -> Result<Sheet, Refusal> {
+    accepted(model, due, plan).ok_or(Refusal::TooLarge)
 }

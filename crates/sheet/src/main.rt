@@ -4,19 +4,19 @@
 
 ghost use Rattle.std.specs.Prelude.{◌≤◌, IfOk};
 
-use calls::SheetAnswer;
+use calls::{Refusal, Sheet};
 use std::io;
 use std::io::Read;
 
-fn print(rt: &impl Print, answer: SheetAnswer) -> io::Result<()> {
-    if answer.refusal != 0 {
-        return println!(rt; "refused {} at {}", answer.refusal, answer.place);
+fn print(rt: &impl Print, answer: Result<Sheet, Refusal>) -> io::Result<()> {
+    match answer {
+        Ok(sheet) => tell(rt, sheet),
+        Err(refusal) => println!(rt; "refused {} at {}", refusal.number(), refusal.place()),
     }
-    tell(rt, answer)
 }
 
 // The rates are not reduced.
-fn tell(rt: &impl Print, sheet: SheetAnswer) -> io::Result<()> {
+fn tell(rt: &impl Print, sheet: Sheet) -> io::Result<()> {
     let value = sheet.value;
     println!(rt;
         "value {value}\npairs {} cells {}",

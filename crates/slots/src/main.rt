@@ -3,7 +3,7 @@
 // end. What is expected was written by another reading of the scope document (tools/reference.py).
 #![tactic(auto)]
 
-use calls::{AdvanceAnswer, StartAnswer};
+use calls::{Advanced, Halted, Refusal};
 use std::io;
 
 struct Model {
@@ -80,26 +80,30 @@ const SPLITS: [[u64; 8]; 10] = [
     [0, 1, 0, u64::MAX, 0, 7, u64::MAX, 0],
 ];
 
-fn tell_start(rt: &impl Print, answer: StartAnswer) -> io::Result<()> {
+fn tell_refusal(rt: &impl Print, refusal: Refusal) -> io::Result<()> {
+    print!(rt; " refused {} {}", refusal.number(), refusal.place())
+}
+
+fn tell_start(rt: &impl Print, answer: Result<(), Refusal>) -> io::Result<()> {
     match answer {
-        StartAnswer::Started => print!(rt; " started"),
-        StartAnswer::Refused { number, place } => print!(rt; " refused {number} {place}"),
+        Ok(()) => print!(rt; " started"),
+        Err(refusal) => tell_refusal(rt, refusal),
     }
 }
 
 // Tells a slot's answer; the number done.
-fn tell_slot(rt: &impl Print, answer: AdvanceAnswer) -> io::Result<u64> {
+fn tell_slot(rt: &impl Print, answer: Result<Advanced, Halted>) -> io::Result<u64> {
     match answer {
-        AdvanceAnswer::Advanced { done, value } => {
+        Ok(Advanced { done, value }) => {
             print!(rt; " {done} {value}")?;
             Ok(done)
         }
-        AdvanceAnswer::Stopped { done } => {
+        Err(Halted::Stopped { done }) => {
             print!(rt; " stopped {done}")?;
             Ok(done)
         }
-        AdvanceAnswer::Refused { number, place } => {
-            print!(rt; " refused {number} {place}")?;
+        Err(Halted::Refused(refusal)) => {
+            tell_refusal(rt, refusal)?;
             Ok(0)
         }
     }
