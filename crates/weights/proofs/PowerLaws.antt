@@ -2,7 +2,7 @@
 -- by a load, that load is at least 1.
 use Prim.Native.Nat.{ℕ, zero, suc, ◌+◌, ◌*◌, ◌^◌, ◌≤◌, ◌<◌}
 use mathlib.Core.Path.{◌≡◌, sym, ap, ◌∙◌}
-use native.Mathlib.Nat.{mul_assoc, mul-one, mul-zero, pow-zero, pow-suc, pow-le-pow_right, mul-le-mul, le_refl, le_trans}
+use native.Mathlib.Nat.{mul_assoc, mul-one, mul-zero, pow-suc, pow-le-pow_right, mul-le-mul, le_refl, le_trans}
 use native.Mathlib.Numerals.{add-one}
 use native.Mathlib.Omega.{arith}
 use Rattle.arith.specs.Capped.{capped}
@@ -43,6 +43,3 @@ module _ (acc load i product : ℕ) (e : product ≡ acc * load ^ i) where
 
   pub power_done : (n : ℕ) → i ≡ n → product < 2 ^ 64 → capped (acc * load ^ n) ≡ Some product
   power_done n d h = sym (ap capped (e ∙ ap (λ j. acc * load ^ j) d)) ∙ capped_exact h
-
-pub power_none : (acc load : ℕ) → acc ≡ acc * load ^ 0
-power_none acc load = sym (ap (λ x. acc * x) (pow-zero load) ∙ mul-one acc)

@@ -34,10 +34,11 @@ unfoldable pub between : List Reach → List (List ℕ)
 between [] = [] ∷ []
 between (r ∷ chains) = flat_map (λ i. map (λ index. i ∷ index) (between chains)) (from r.low (suc r.high - r.low))
 
--- what a leaf's numbers keep to: a chain that does not visit stands at 0
+-- a window is at most 15
 abbrev pub InWindow : Reach → Type 0
 InWindow r = r.high ≤ 15
 
+-- what a chain of a leaf keeps to: one that does not visit stands at 0
 pub record Sound (r : Reach) : Type 0 where
   pub ordered : r.low ≤ r.high
   pub window : InWindow r

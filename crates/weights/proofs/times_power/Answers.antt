@@ -2,11 +2,8 @@
 use mathlib.Core.Path.{sym, ◌∙◌}
 use native.Mathlib.Omega.{arith}
 use borrow.Author.Rules.{rules}
-use Rattle.weights.proofs.PowerLaws.{power_none, power_exact, power_large, power_done}
+use Rattle.weights.proofs.PowerLaws.{power_exact, power_large, power_done}
 use Rattle.weights.proofs.times_power.Goals as goal
-
-pub loop-init : goal.loop-init
-loop-init c = (power_none c.args.acc c.args.load, search rules)
 
 pub returns-in_err-product : goal.returns-in_err-product
 returns-in_err-product c =
