@@ -12,11 +12,9 @@ pub fn shape(ch: Chains, counts: [usize; 8]) -> Shape
 {
     let totals = ch.totals;
     let windows = ch.windows;
-    let mut k = ch.count;
     let mut cells: usize = 1;
     let mut strides = [0usize; 8];
-    while 0 < k {
-        k -= 1;
+    for k in (0..ch.count).rev() {
         let cover = coverage(counts[k], totals[k]);
         strides[k] = stride(cover, windows[k], cells);
         cells = size(cover, windows[k]) * cells;

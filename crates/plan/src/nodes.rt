@@ -23,10 +23,8 @@ fn leaf_counts(loads: &[u64; 128], chains: usize, centre: usize) -> [usize; 8]
     ensures { result ≡ row chains (λ k. count_by loads.now k (centre ∷ [])) }
 {
     let mut counts = [0usize; 8];
-    let mut k = 0;
-    while k < chains {
+    for k in 0..chains {
         counts[k] = visiting(loads, centre, k);
-        k += 1;
     }
     counts
 }
@@ -36,10 +34,8 @@ fn join_counts(left: [usize; 8], right: [usize; 8], chains: usize) -> [usize; 8]
     ensures { result ≡ added chains left right }
 {
     let mut counts = [0usize; 8];
-    let mut k = 0;
-    while k < chains {
+    for k in 0..chains {
         counts[k] = left[k] + right[k];
-        k += 1;
     }
     counts
 }
@@ -51,10 +47,8 @@ fn pairs(ch: Chains, left: [usize; 8], right: [usize; 8], joined: [usize; 8]) ->
 {
     let totals = ch.totals;
     let windows = ch.windows;
-    let mut k = ch.count;
     let mut product: usize = 1;
-    while 0 < k {
-        k -= 1;
+    for k in (0..ch.count).rev() {
         let l = coverage(left[k], totals[k]);
         let r = coverage(right[k], totals[k]);
         let j = coverage(joined[k], totals[k]);

@@ -16,10 +16,8 @@ fn total(loads: &[u64; 128], centres: usize, k: usize) -> usize
     ensures { result ≡ count_by loads.now k (from 1 centres) }
 {
     let mut sum: usize = 0;
-    let mut c = 0;
-    while c < centres {
-        c += 1;
-        sum += visiting(loads, c, k);
+    for c in 0..centres {
+        sum += visiting(loads, c + 1, k);
     }
     sum
 }
@@ -29,10 +27,8 @@ fn totals_of(loads: &[u64; 128], centres: usize, chains: usize) -> [usize; 8]
     ensures { result ≡ row chains (λ k. count_by loads.now k (from 1 centres)) }
 {
     let mut totals = [0usize; 8];
-    let mut k = 0;
-    while k < chains {
+    for k in 0..chains {
         totals[k] = total(loads, centres, k);
-        k += 1;
     }
     totals
 }
@@ -90,8 +86,7 @@ pub fn make_table(m: Model, windows: [usize; 8]) -> Table
         windows,
     };
     let mut t = empty_table(totals);
-    let mut i = 0;
-    while i < m.count {
+    for i in 0..m.count {
         let n = t.count;
         let r = back(n, 1);
         let right = t.nodes[r];
@@ -102,7 +97,6 @@ pub fn make_table(m: Model, windows: [usize; 8]) -> Table
         t.count = n + 1;
         t.cells = t.cells + e.cells;
         t.pairs = t.pairs + e.pairs;
-        i += 1;
     }
     t
 }

@@ -6,6 +6,3 @@ use Rattle.plan.proofs.nodes.join_counts.Given as goal
 
 abbrev pub invariant-loop-k : goal.invariant-loop-k
 invariant-loop-k l = Rowed (λ i. get_or l.left i 0 + get_or l.right i 0) l.chains l.counts l.k
-
-abbrev pub decreases-loop-k : goal.decreases-loop-k
-decreases-loop-k l = l.chains - l.k

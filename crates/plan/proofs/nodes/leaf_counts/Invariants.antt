@@ -7,6 +7,3 @@ use Rattle.plan.proofs.nodes.leaf_counts.Given as goal
 
 abbrev pub invariant-loop-k : goal.invariant-loop-k
 invariant-loop-k l = Rowed (λ i. count_by l.loads i (l.centre ∷ [])) l.chains l.counts l.k
-
-abbrev pub decreases-loop-k : goal.decreases-loop-k
-decreases-loop-k l = l.chains - l.k

@@ -4,6 +4,3 @@ use Rattle.plan.proofs.nodes.pairs.Given as goal
 
 abbrev pub invariant-loop-k : goal.invariant-loop-k
 invariant-loop-k l = Product l.totals l.windows l.left l.right l.joined l.initial.k l.k l.product
-
-abbrev pub decreases-loop-k : goal.decreases-loop-k
-decreases-loop-k l = l.k

@@ -44,9 +44,6 @@ overflow_add-t-in-loop-i c = record { fits = cells_fit c.loop-i.invariant c.loop
 pub overflow_add-t-in-loop-i-2 : goal.overflow_add-t-in-loop-i-2
 overflow_add-t-in-loop-i-2 c = record { fits = pairs_fit c.loop-i.invariant c.loop-i-test.true _ _ c.back-r.ensures c.back-l.ensures _ c.made-e.ensures }
 
-pub overflow_add-i : goal.overflow_add-i
-overflow_add-i c = record { fits = omega (arith, c.loop-i-test.true, c.requires.0.count_range) }
-
 pub loop-i-preserved : goal.loop-i-preserved
 unfolding with_node
 loop-i-preserved c = turn_growing c.loop-i.invariant c.loop-i-test.true _ _ c.back-r.ensures c.back-l.ensures _ c.made-e.ensures

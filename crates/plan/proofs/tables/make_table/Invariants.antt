@@ -5,7 +5,4 @@ use Rattle.plan.proofs.GrownLaws.{Growing}
 use Rattle.plan.proofs.tables.make_table.Given as goal
 
 abbrev pub invariant-loop-i : goal.invariant-loop-i
-invariant-loop-i l = Growing l.m l.ch l.t l.i
-
-abbrev pub decreases-loop-i : goal.decreases-loop-i
-decreases-loop-i l = l.m.count - l.i
+invariant-loop-i l = Growing l.fn.m l.ch l.t l.i

@@ -7,6 +7,3 @@ use Rattle.plan.proofs.tables.total.Given as goal
 
 abbrev pub invariant-loop-c : goal.invariant-loop-c
 invariant-loop-c l = (l.sum ≡ count_by l.loads l.k (from 1 l.c)) × (l.c ≤ l.centres)
-
-abbrev pub decreases-loop-c : goal.decreases-loop-c
-decreases-loop-c l = l.centres - l.c

@@ -7,6 +7,3 @@ use Rattle.plan.proofs.tables.totals_of.Given as goal
 
 abbrev pub invariant-loop-k : goal.invariant-loop-k
 invariant-loop-k l = Rowed (λ i. count_by l.loads i (from 1 l.centres)) l.chains l.totals l.k
-
-abbrev pub decreases-loop-k : goal.decreases-loop-k
-decreases-loop-k l = l.chains - l.k
