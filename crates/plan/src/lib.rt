@@ -5,6 +5,7 @@ mod arrays; // arrays.rt: a node's cells and strides
 pub mod asking; // asking.rt: from a file and a chain to lower to a model, its windows and its table
 pub mod coverage; // coverage.rt: a chain's coverage by counting, and what it makes of cells and pairs
 mod nodes; // nodes.rt: one node of the table
+mod rows; // rows.rt: one number a chain
 pub mod tables; // tables.rt: the table, node by node
 pub mod windows; // windows.rt: the windows of a run
 

@@ -5,6 +5,7 @@ ghost use Rattle.plan.specs.Steps.{count_by, added, pairs_by, node_leaf, node_jo
 
 use crate::arrays::shape;
 use crate::coverage::{coverage, factor};
+use crate::rows::row;
 use crate::{Chains, Node};
 
 // 1 if the chain at `k`, counted from 0, visits the centre, else 0.
@@ -22,22 +23,15 @@ fn leaf_counts(loads: &[u64; 128], chains: usize, centre: usize) -> [usize; 8]
     requires { (1 ≤ centre) × (centre ≤ 16) × (chains ≤ 8) }
     ensures { result ≡ row chains (λ k. count_by loads.now k (centre ∷ [])) }
 {
-    let mut counts = [0usize; 8];
-    for k in 0..chains {
-        counts[k] = visiting(loads, centre, k);
-    }
-    counts
+    row(chains, |k| visiting(loads, centre, k))
 }
 
+#[tactic(auto, unfolding(crate::specs::Steps::added))]
 fn join_counts(left: [usize; 8], right: [usize; 8], chains: usize) -> [usize; 8]
     requires { (chains ≤ 8) × ((k : ℕ) → get_or left k 0 ≤ 31) × ((k : ℕ) → get_or right k 0 ≤ 31) }
     ensures { result ≡ added chains left right }
 {
-    let mut counts = [0usize; 8];
-    for k in 0..chains {
-        counts[k] = left[k] + right[k];
-    }
-    counts
+    row(chains, |k| left[k] + right[k])
 }
 
 // The product of the chains' factors; `joined` has the counts at the join.

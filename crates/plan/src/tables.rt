@@ -7,6 +7,7 @@ ghost use Rattle.plan.specs.Table.{row, Tabled};
 ghost use Rattle.plan.specs.Steps.{count_by, node_by, empty_table, Few, Small};
 
 use crate::nodes::{join_node, leaf_node, visiting};
+use crate::rows::row;
 use crate::{Chains, Node, Table};
 use modelfile::Model;
 
@@ -26,11 +27,7 @@ fn totals_of(loads: &[u64; 128], centres: usize, chains: usize) -> [usize; 8]
     requires { (centres ≤ 16) × (chains ≤ 8) }
     ensures { result ≡ row chains (λ k. count_by loads.now k (from 1 centres)) }
 {
-    let mut totals = [0usize; 8];
-    for k in 0..chains {
-        totals[k] = total(loads, centres, k);
-    }
-    totals
+    row(chains, |k| total(loads, centres, k))
 }
 
 // i less n, 0 where that is less than 0.
