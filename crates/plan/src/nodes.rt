@@ -1,22 +1,27 @@
 // One node of the table: a leaf's from the loads, a join's from its children's.
 ghost use Rattle.std.specs.Prelude.{◌≡◌, ℕ, ◌+◌, ◌≤◌, ◌<◌, ◌∷◌, [], length, get_or};
 ghost use Rattle.plan.specs.Table.{row};
-ghost use Rattle.plan.specs.Steps.{count_by, added, pairs_by, node_leaf, node_joined, Few, Small};
+ghost use Rattle.plan.specs.Steps.{loaded_by, count_by, added, pairs_by, node_leaf, node_joined, Few, Small};
 
 use crate::arrays::shape;
 use crate::coverage::{coverage, factor};
 use crate::rows::row;
 use crate::{Chains, Node};
 
+// Whether the chain at `k`, counted from 0, visits the centre.
+pub fn visits(loads: &[u64; 128], centre: usize, k: usize) -> bool
+    requires { (1 ≤ centre) × (centre ≤ 16) × (k < 8) }
+    ensures { result ≡ loaded_by loads.now k centre }
+{
+    loads[(centre - 1) * 8 + k] != 0
+}
+
 // 1 if the chain at `k`, counted from 0, visits the centre, else 0.
 pub fn visiting(loads: &[u64; 128], centre: usize, k: usize) -> usize
     requires { (1 ≤ centre) × (centre ≤ 16) × (k < 8) }
     ensures { result ≡ count_by loads.now k (centre ∷ []) }
 {
-    if loads[(centre - 1) * 8 + k] == 0 {
-        return 0;
-    }
-    1
+    usize::from(visits(loads, centre, k))
 }
 
 fn leaf_counts(loads: &[u64; 128], chains: usize, centre: usize) -> [usize; 8]

@@ -2,11 +2,14 @@
 // child the entry before the right subtree.
 ghost use Rattle.std.specs.Prelude.{◌≡◌, ℕ, ◌-◌, ◌≤◌, ◌<◌, length, get_or, take};
 ghost use Rattle.sums.specs.Lists.{from};
+ghost use Rattle.std.specs.Prelude.{count_by as counting, ◌+◌};
+ghost use Rattle.std.specs.List.{range_with_len};
+ghost use Rattle.plan.specs.Steps.{loaded_by};
 ghost use Rattle.modelfile.proofs.Guaranteed.{Guaranteed};
 ghost use Rattle.plan.specs.Table.{row, Tabled};
 ghost use Rattle.plan.specs.Steps.{count_by, node_by, empty_table, Few, Small};
 
-use crate::nodes::{join_node, leaf_node, visiting};
+use crate::nodes::{join_node, leaf_node, visits};
 use crate::rows::row;
 use crate::{Chains, Node, Table};
 use modelfile::Model;
@@ -14,15 +17,12 @@ use modelfile::Model;
 // How many centres the chain at `k` visits.
 fn total(loads: &[u64; 128], centres: usize, k: usize) -> usize
     requires { (centres ≤ 16) × (k < 8) }
-    ensures { result ≡ count_by loads.now k (from 1 centres) }
+    ensures { result ≡ counting (λ c. loaded_by loads.now k (c + 1)) (range_with_len 0 centres) }
 {
-    let mut sum: usize = 0;
-    for c in 0..centres {
-        sum += visiting(loads, c + 1, k);
-    }
-    sum
+    (0..centres).filter(|c| visits(loads, *c + 1, k)).count()
 }
 
+#[tactic(auto, using(crate::proofs::LoadLaws::counted))]
 fn totals_of(loads: &[u64; 128], centres: usize, chains: usize) -> [usize; 8]
     requires { (centres ≤ 16) × (chains ≤ 8) }
     ensures { result ≡ row chains (λ k. count_by loads.now k (from 1 centres)) }
