@@ -105,18 +105,18 @@ module _ (m : Model) (g : Guaranteed m) (windows : List ℕ) (long : length wind
     unfolding nodes_of
     children_some = omega (arith, s.count_is, nodes_under l)
 
-    children_right : right_of t ≡ entry (routes_in m) (windows_in m windows) r (forest_cells (routes_in m) (windows_in m windows) (l ∷ S))
+    children_right : right_of t t.count ≡ entry (routes_in m) (windows_in m windows) r (forest_cells (routes_in m) (windows_in m windows) (l ∷ S))
     unfolding right_of
     children_right =
         sym (get_or-take t.count t.nodes (t.count - 1) no_node (omega (arith, children_some)))
         ∙ ap (λ es. get_or es (t.count - 1) no_node) s.nodes_are
         ∙ right_found (routes_in m) (windows_in m windows) l r S t.count s.count_is
 
-    right_span : (right_of t).span ≡ nodes_in r
+    right_span : (right_of t t.count).span ≡ nodes_in r
     unfolding entry
     right_span = ap (λ (e : Node). e.span) children_right
 
-    children_left : left_of t ≡ entry (routes_in m) (windows_in m windows) l (forest_cells (routes_in m) (windows_in m windows) S)
+    children_left : left_of t t.count ≡ entry (routes_in m) (windows_in m windows) l (forest_cells (routes_in m) (windows_in m windows) S)
     unfolding left_of
     children_left =
         ap (λ n. get_or t.nodes (t.count - 1 - n) no_node) right_span
@@ -288,23 +288,15 @@ module _ {m : Model} {ch : Chains} {t : Table} {i : ℕ} (w : Growing m ch t i) 
   pub node_low : get_or m.nodes i 0 ≤ 16
   node_low = turn.ready.leaf_range
 
-  -- the two entries that the code takes out are those a join's children have
-  module _ (r l : ℕ) (er : r ≡ t.count - 1) (el : l ≡ r - (get_or t.nodes r no_node).span) where
-    found_right : get_or t.nodes r no_node ≡ right_of t
-    unfolding right_of
-    found_right = ap (λ n. get_or t.nodes n no_node) er
+  -- by the two children that the code takes out
+  module _ {l r : Node} (el : l ≡ left_of t t.count) (er : r ≡ right_of t t.count) where
+    pub children_small : get_or m.nodes i 0 ≡ 0 → Small l × Small r
+    children_small z = (subst Small (sym el) (turn.ready.left_small z), subst Small (sym er) (turn.ready.right_small z))
 
-    found_left : get_or t.nodes l no_node ≡ left_of t
-    unfolding left_of
-    found_left = ap (λ n. get_or t.nodes n no_node) (el ∙ (λ j. er j - (found_right j).span))
-
-    pub children_small : get_or m.nodes i 0 ≡ 0 → Small (get_or t.nodes l no_node) × Small (get_or t.nodes r no_node)
-    children_small z = (subst Small (sym found_left) (turn.ready.left_small z), subst Small (sym found_right) (turn.ready.right_small z))
-
-    module _ (e : Node) (ee : e ≡ node_by ch m.loads (get_or t.nodes l no_node) (get_or t.nodes r no_node) t.cells (get_or m.nodes i 0)) where
+    module _ {e : Node} (ee : e ≡ node_by ch m.loads l r t.cells (get_or m.nodes i 0)) where
       made : e ≡ node_made ch m.loads t (get_or m.nodes i 0)
       unfolding node_made
-      made = ee ∙ (λ j. node_by ch m.loads (found_left j) (found_right j) t.cells (get_or m.nodes i 0))
+      made = ee ∙ (λ j. node_by ch m.loads (el j) (er j) t.cells (get_or m.nodes i 0))
 
       cells_low : e.cells ≤ 2 ^ 32
       cells_low = subst (λ (n : Node). n.cells ≤ 2 ^ 32) (sym made) (made_cells ch w.few m.loads t (get_or m.nodes i 0))

@@ -7,7 +7,7 @@ ghost use Rattle.std.specs.List.{range_with_len};
 ghost use Rattle.plan.specs.Steps.{loaded_by};
 ghost use Rattle.modelfile.proofs.Guaranteed.{Guaranteed};
 ghost use Rattle.plan.specs.Table.{row, Tabled};
-ghost use Rattle.plan.specs.Steps.{count_by, node_by, empty_table, Few, Small};
+ghost use Rattle.plan.specs.Steps.{count_by, left_of, right_of, node_by, empty_table, Few, Small};
 
 use crate::nodes::{join_node, leaf_node, visits};
 use crate::rows::row;
@@ -30,11 +30,19 @@ fn totals_of(loads: &[u64; 128], centres: usize, chains: usize) -> [usize; 8]
     row(chains, |k| total(loads, centres, k))
 }
 
-// i less n, 0 where that is less than 0.
-pub fn back(i: usize, n: usize) -> usize
-    ensures { result ≡ i - n }
-{
-    if n <= i { i - n } else { 0 }
+impl Table {
+    // The left and the right child of a join at place `i`.
+    #[tactic(auto, unfolding(crate::specs::Steps::left_of, crate::specs::Steps::right_of))]
+    pub fn children(&self, i: usize) -> (Node, Node)
+        requires { i ≤ 31 }
+        ensures left { result.0 ≡ left_of self.now i }
+        ensures right { result.1 ≡ right_of self.now i }
+    {
+        let r = i.saturating_sub(1);
+        let right = self.nodes[r];
+        let l = r.saturating_sub(right.span);
+        (self.nodes[l], right)
+    }
 }
 
 // The entry of the next node: 0 is a join of the two entries, any other number a leaf's centre.
@@ -85,10 +93,7 @@ pub fn make_table(m: Model, windows: [usize; 8]) -> Table
     let mut t = empty_table(totals);
     for i in 0..m.count {
         let n = t.count;
-        let r = back(n, 1);
-        let right = t.nodes[r];
-        let l = back(r, right.span);
-        let left = t.nodes[l];
+        let (left, right) = t.children(n);
         let e = made(ch, &loads, left, right, t.cells, nodes[i]);
         t.nodes[n] = e;
         t.count = n + 1;

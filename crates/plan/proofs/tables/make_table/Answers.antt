@@ -11,23 +11,14 @@ totals_of-totals-requires c = (c.requires.0.centres_range.1, c.requires.0.chains
 pub loop-i-init : goal.loop-i-init
 loop-i-init c = growing_first _ c.requires.0 _ c.requires.1 c.requires.2 _ c.totals_of-totals.ensures _ c.empty_table-t.ensures
 
-pub offset_bounds-t-r : goal.offset_bounds-t-r
-offset_bounds-t-r c = omega (arith, c.back-r.ensures, count_low c.loop-i.invariant c.loop-i-test.true)
-
-pub bounds-t-r : goal.bounds-t-r
-bounds-t-r c = omega (arith, c.back-r.ensures, count_low c.loop-i.invariant c.loop-i-test.true)
-
-pub offset_bounds-t-l : goal.offset_bounds-t-l
-offset_bounds-t-l c = omega (arith, c.back-l.ensures, c.back-r.ensures, count_low c.loop-i.invariant c.loop-i-test.true)
-
-pub bounds-t-l : goal.bounds-t-l
-bounds-t-l c = omega (arith, c.back-l.ensures, c.back-r.ensures, count_low c.loop-i.invariant c.loop-i-test.true)
-
 pub bounds-nodes-i : goal.bounds-nodes-i
 bounds-nodes-i c = omega (arith, c.requires.0.nodes_long, c.requires.0.count_range, c.loop-i-test.true)
 
+pub children-requires : goal.children-requires
+children-requires c = omega (arith, count_low c.loop-i.invariant c.loop-i-test.true)
+
 pub made-e-requires : goal.made-e-requires
-made-e-requires c = (c.loop-i.invariant.few, node_low c.loop-i.invariant c.loop-i-test.true, children_small c.loop-i.invariant c.loop-i-test.true _ _ c.back-r.ensures c.back-l.ensures)
+made-e-requires c = (c.loop-i.invariant.few, node_low c.loop-i.invariant c.loop-i-test.true, children_small c.loop-i.invariant c.loop-i-test.true c.children.ensures.left c.children.ensures.right)
 
 pub offset_bounds-t-n : goal.offset_bounds-t-n
 offset_bounds-t-n c = omega (arith, count_low c.loop-i.invariant c.loop-i-test.true)
@@ -39,14 +30,14 @@ pub overflow_add-t : goal.overflow_add-t
 overflow_add-t c = record { fits = omega (arith, count_low c.loop-i.invariant c.loop-i-test.true) }
 
 pub overflow_add-t-in-loop-i : goal.overflow_add-t-in-loop-i
-overflow_add-t-in-loop-i c = record { fits = cells_fit c.loop-i.invariant c.loop-i-test.true _ _ c.back-r.ensures c.back-l.ensures _ c.made-e.ensures }
+overflow_add-t-in-loop-i c = record { fits = cells_fit c.loop-i.invariant c.loop-i-test.true c.children.ensures.left c.children.ensures.right c.made-e.ensures }
 
 pub overflow_add-t-in-loop-i-2 : goal.overflow_add-t-in-loop-i-2
-overflow_add-t-in-loop-i-2 c = record { fits = pairs_fit c.loop-i.invariant c.loop-i-test.true _ _ c.back-r.ensures c.back-l.ensures _ c.made-e.ensures }
+overflow_add-t-in-loop-i-2 c = record { fits = pairs_fit c.loop-i.invariant c.loop-i-test.true c.children.ensures.left c.children.ensures.right c.made-e.ensures }
 
 pub loop-i-preserved : goal.loop-i-preserved
 unfolding with_node
-loop-i-preserved c = turn_growing c.loop-i.invariant c.loop-i-test.true _ _ c.back-r.ensures c.back-l.ensures _ c.made-e.ensures
+loop-i-preserved c = turn_growing c.loop-i.invariant c.loop-i-test.true c.children.ensures.left c.children.ensures.right c.made-e.ensures
 
 pub returns : goal.returns
 returns c = growing_last c.loop-i.invariant c.loop-i-test.false
