@@ -1,6 +1,6 @@
 -- The busiest centre. The running best over a list of sums is the number of the first of the largest: one more sum is either not above
 -- it, and leaves it, or is above every sum before it, and is the new best.
-use Prim.Native.Nat.{ℕ, suc, ◌+◌, ◌-◌, ◌*◌, ◌≤◌, ◌<◌, max}
+use Prim.Native.Nat.{ℕ, suc, ◌+◌, ◌-◌, ◌*◌, ◌^◌, ◌≤◌, ◌<◌, max}
 use mathlib.Core.Path.{◌≡◌, refl, sym, ap, subst, ◌∙◌}
 use mathlib.Core.Bool.{Bool, true, false}
 use mathlib.Core.List.{List, [], ◌∷◌, ◌++◌, map}
@@ -10,6 +10,10 @@ use lib.Dec.{ltb, eqb}
 use lib.ListN.{length, get_or, take, drop, length-map, length-drop}
 use lib.Seq.{take-suc, get_or-drop}
 use borrow.Author.Tests.{eq-eqb, ne_eqb, eqb-false, ltb-true, ltb-false}
+use Rattle.std.specs.Prelude.{sum}
+use Rattle.std.proofs.lemmas.List.{length-take}
+use Rattle.std.proofs.lemmas.List.Sums.{sum_by-cons}
+use Rattle.calls.proofs.FileLaws.{take_low}
 use Rattle.sums.specs.Choice.{choose}
 use Rattle.sums.specs.Lists.{from}
 use Rattle.sums.specs.Sums.{sum_over}
@@ -105,7 +109,7 @@ module _ (m : Model) where
   unfolding from
   busy_first = record { low = omega arith; high = omega arith; best = best_none }
 
-  pub busy_turn : {b r : Best} {c sum : ℕ} → Busy m b c → c ≤ m.centres → sum ≡ load_sum m c → r ≡ better b c sum → Busy m r (c + 1)
+  pub busy_turn : {b r : Best} {c sum : ℕ} → Busy m b c → c < m.centres + 1 → sum ≡ load_sum m c → r ≡ better b c sum → Busy m r (c + 1)
   busy_turn {b} {r} {c} {sum} w h s e =
       let sums = map (load_sum m) (from 1 (c - 1)) in
       let d : (c + 1) - 1 ≡ suc (c - 1) = omega (arith, w.low) in
@@ -120,38 +124,35 @@ module _ (m : Model) where
         best = subst (λ q. BestOf q (map (load_sum m) (from 1 ((c + 1) - 1)))) (sym e) (subst (BestOf (better b c sum)) (sym x) (best_more b sums c sum w.best l));
       }
 
-  pub busy_last : {b : Best} {c : ℕ} → Busy m b c → m.centres < c → b.centre ≡ busiest m
+  pub busy_last : {b : Best} {c : ℕ} → Busy m b c → m.centres + 1 ≤ c → b.centre ≡ busiest m
   unfolding busiest
   busy_last {b} {c} w h =
       let d : c - 1 ≡ m.centres = omega (arith, w.low, w.high) in
       w.best.centre_is ∙ ap (λ n. first_with (largest (map (load_sum m) (from 1 n))) (map (load_sum m) (from 1 n))) d
 
--- ---- a centre's sum of loads: those of the first k chains are added
+-- ---- a centre's sum of loads: of at most eight loads, each at most 65535
 
-pub record Summed (m : Model) (centre sum k : ℕ) : Type 0 where
-  pub few : k ≤ m.chains
-  pub sum_is : sum ≡ sum_over (take k (drop ((centre - 1) * 8) m.loads)) (λ load. load)
-  pub low : sum ≤ 65535 * k
+sum_is : (xs : List ℕ) → sum xs ≡ sum_over xs (λ load. load)
+unfolding sum_over
+sum_is [] = refl
+sum_is (x ∷ xs) = sum_by-cons (λ n. n) x xs ∙ ap (λ n. x + n) (sum_is xs)
+
+sum_few : (xs : List ℕ) → ((i : ℕ) → get_or xs i 0 ≤ 65535) → sum xs ≤ 65535 * length xs
+sum_few [] h = omega arith
+sum_few (x ∷ xs) h = omega (arith, sum_by-cons (λ n. n) x xs, h 0, sum_few xs (λ i. h (suc i)))
 
 module _ (m : Model) (g : Guaranteed m) (centre : ℕ) where
-  pub summed_first : Summed m centre 0 0
-  unfolding sum_over
-  summed_first = record { few = omega arith; sum_is = refl; low = omega arith }
+  -- as the code takes them out
+  abbrev pub loads_at : List ℕ
+  loads_at = take ((centre - 1) * 8 + m.chains - (centre - 1) * 8) (drop ((centre - 1) * 8) m.loads)
 
-  pub summed_turn : {sum k : ℕ} → Summed m centre sum k → k < m.chains → 1 ≤ centre → centre ≤ m.centres → Summed m centre (sum + get_or m.loads ((centre - 1) * 8 + k) 0) (k + 1)
-  unfolding sum_over
-  summed_turn {sum} {k} w h a b =
-      let rest = drop ((centre - 1) * 8) m.loads in
-      let l : k < length rest = omega (arith, length-drop ((centre - 1) * 8) m.loads, g.loads_long, g.chains_range, g.centres_range) in
-      record {
-        few = omega arith;
-        sum_is = ap (λ n. sum + n) (sym (get_or-drop ((centre - 1) * 8) m.loads k 0)) ∙ last rest k l w.sum_is;
-        low = omega (arith, w.low, g.load_range ((centre - 1) * 8 + k));
-      }
-    where
-      last : (rest : List ℕ) (k : ℕ) → k < length rest → sum ≡ sum_over (take k rest) (λ load. load) → sum + get_or rest k 0 ≡ sum_over (take (k + 1) rest) (λ load. load)
-      last rest k l e = rw (add-one k, take-suc rest k 0 l, sum_over-append (take k rest) (get_or rest k 0 ∷ []) (λ load. load)) (omega (arith, e))
+  pub sum_low : sum loads_at < 2 ^ 64
+  sum_low =
+      let low : (i : ℕ) → get_or loads_at i 0 ≤ 65535 = take_low _ _ 65535 (λ i. omega (arith, get_or-drop ((centre - 1) * 8) m.loads i 0, g.load_range ((centre - 1) * 8 + i))) in
+      omega (arith, sum_few loads_at low, length-take ((centre - 1) * 8 + m.chains - (centre - 1) * 8) (drop ((centre - 1) * 8) m.loads), g.chains_range)
 
-  pub summed_last : {sum k : ℕ} → Summed m centre sum k → m.chains ≤ k → sum ≡ load_sum m centre
+  pub sum_loads : sum loads_at ≡ load_sum m centre
   unfolding load_sum loads_of
-  summed_last {sum} {k} w h = let e : k ≡ m.chains = omega (arith, w.few) in w.sum_is ∙ ap (λ n. sum_over (take n (drop ((centre - 1) * 8) m.loads)) (λ load. load)) e
+  sum_loads =
+      let e : (centre - 1) * 8 + m.chains - (centre - 1) * 8 ≡ m.chains = omega arith in
+      sum_is loads_at ∙ ap (λ n. sum_over (take n (drop ((centre - 1) * 8) m.loads)) (λ load. load)) e

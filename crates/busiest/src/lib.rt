@@ -20,15 +20,8 @@ fn load_sum(m: Model, centre: usize) -> u64
     requires { Guaranteed m × (1 ≤ centre) × (centre ≤ m.centres) }
     ensures { result ≡ load_sum m centre }
 {
-    let loads = m.loads;
     let first = (centre - 1) * 8;
-    let mut sum: u64 = 0;
-    let mut k = 0;
-    while k < m.chains {
-        sum += loads[first + k];
-        k += 1;
-    }
-    sum
+    m.loads[first..first + m.chains].iter().sum()
 }
 
 // An equal sum leaves the centre before it.
@@ -46,10 +39,8 @@ pub fn busiest(m: Model) -> usize
     ensures { result ≡ busiest m }
 {
     let mut best = Best { centre: 1, most: 0 };
-    let mut c = 1;
-    while c <= m.centres {
+    for c in 1..m.centres + 1 {
         best = better(best, c, load_sum(m, c));
-        c += 1;
     }
     best.centre
 }

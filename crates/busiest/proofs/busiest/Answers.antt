@@ -6,8 +6,8 @@ use Rattle.busiest.proofs.busiest.Goals as goal
 pub loop-c-init : goal.loop-c-init
 loop-c-init c = busy_first _
 
-pub overflow_add-c : goal.overflow_add-c
-overflow_add-c c = record { fits = omega (arith, c.loop-c-test.true, c.requires.centres_range) }
+pub overflow_add-c-end : goal.overflow_add-c-end
+overflow_add-c-end c = record { fits = omega (arith, c.requires.centres_range) }
 
 pub loop-c-preserved : goal.loop-c-preserved
 loop-c-preserved c = busy_turn _ c.loop-c.invariant c.loop-c-test.true c.load_sum.ensures c.better-best.ensures

@@ -6,5 +6,3 @@ use Rattle.busiest.proofs.busiest.Given as goal
 abbrev pub invariant-loop-c : goal.invariant-loop-c
 invariant-loop-c l = Busy l.m l.best l.c
 
-abbrev pub decreases-loop-c : goal.decreases-loop-c
-decreases-loop-c l = l.m.centres + 1 - l.c
