@@ -1,16 +1,22 @@
--- `busiest` meets its contract. The loop's invariant: `best` is the first of the largest among the centres before c (`Busy`).
+-- `busiest` meets its contract. The loop's invariant: `busiest` is the first of the largest among the centres before this one (`Busy`).
 use native.Mathlib.Omega.{arith}
-use Rattle.busiest.proofs.BusiestLaws.{busy_first, busy_turn, busy_last}
+use Rattle.busiest.proofs.BusiestLaws.{busy_first, busy_new, busy_kept, busy_last}
 use Rattle.busiest.proofs.busiest.Goals as goal
+use Rattle.busiest.proofs.busiest.Goals.{then-most-sum, else-most-sum}
 
-pub loop-c-init : goal.loop-c-init
-loop-c-init c = busy_first _
+pub loop-centre-init : goal.loop-centre-init
+loop-centre-init c = busy_first _
 
-pub overflow_add-c-end : goal.overflow_add-c-end
-overflow_add-c-end c = record { fits = omega (arith, c.requires.centres_range) }
+pub overflow_add-centre-end : goal.overflow_add-centre-end
+overflow_add-centre-end c = record { fits = omega (arith, c.requires.centres_range) }
 
-pub loop-c-preserved : goal.loop-c-preserved
-loop-c-preserved c = busy_turn _ c.loop-c.invariant c.loop-c-test.true c.load_sum.ensures c.better-best.ensures
+pub loop-centre-preserved : goal.loop-centre-preserved
+loop-centre-preserved c =
+    let loop = c.loop-centre in
+    elim c.if-most-sum.branch [
+      | then-most-sum w ↦ rw (w.busiest-is, w.most-is) (busy_new loop.invariant c.loop-centre-test.true c.load_sum-sum.ensures w.if-most-sum.true)
+      | else-most-sum w ↦ rw (w.busiest-is, w.most-is) (busy_kept loop.invariant c.loop-centre-test.true c.load_sum-sum.ensures w.if-most-sum.false)
+    ]
 
 pub returns : goal.returns
-returns c = busy_last _ c.loop-c.invariant c.loop-c-test.false
+returns c = busy_last c.loop-centre.invariant c.loop-centre-test.false

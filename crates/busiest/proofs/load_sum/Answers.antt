@@ -1,5 +1,4 @@
 -- `load_sum` meets its contract: the loads are those of the centre's chains, each at most 65535.
-use native.Mathlib.Omega.{arith}
 use mathlib.Core.Path.{◌≡◌, ◌∙◌}
 use Prim.Native.Nat.{◌<◌, ◌^◌}
 use borrow.Author.Rules.{rules}
