@@ -99,7 +99,7 @@ pub busy_first : (m : Model) → Busy m 1 0 1
 unfolding from largest first_with
 busy_first m = record { low = omega arith; high = omega arith; best = record { most_is = refl; centre_is = refl } }
 
-module _ {m : Model} {centre most c sum : ℕ} (w : Busy m centre most c) (h : c < m.centres + 1) (s : sum ≡ load_sum m c) where
+module _ {m : Model} {centre most c sum : ℕ} (w : Busy m centre most c) (h : c ≤ m.centres) (s : sum ≡ load_sum m c) where
   sums_more : map (load_sum m) (from 1 (c - 1)) ++ (sum ∷ []) ≡ map (load_sum m) (from 1 ((c + 1) - 1))
   sums_more =
       let d : (c + 1) - 1 ≡ suc (c - 1) = omega (arith, w.low) in
@@ -115,7 +115,7 @@ module _ {m : Model} {centre most c sum : ℕ} (w : Busy m centre most c) (h : c
   pub busy_kept : sum ≤ most → Busy m centre most (c + 1)
   busy_kept l = record { low = omega arith; high = omega arith; best = subst (BestOf centre most) sums_more (best_kept w.best sum l) }
 
-pub busy_last : {m : Model} {centre most c : ℕ} → Busy m centre most c → m.centres + 1 ≤ c → centre ≡ busiest m
+pub busy_last : {m : Model} {centre most c : ℕ} → Busy m centre most c → m.centres < c → centre ≡ busiest m
 unfolding busiest
 busy_last {m} {c = c} w h =
     let d : c - 1 ≡ m.centres = omega (arith, w.low, w.high) in

@@ -22,7 +22,7 @@ pub fn busiest(m: Model) -> usize
 {
     let mut busiest = 1;
     let mut most = 0;
-    for centre in 1..m.centres + 1 {
+    for centre in 1..=m.centres {
         let sum = load_sum(m, centre);
         // an equal sum leaves the centre before it
         if most < sum {
