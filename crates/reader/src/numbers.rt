@@ -56,13 +56,11 @@ impl Chain {
     }
 }
 
+#[tactic(auto, unfolding(modelfile::specs::Ends::outside))]
 pub fn is_outside(first: usize, last: usize, n: usize) -> bool
     ensures { result ≡ outside first last n }
 {
-    if n < first {
-        return true;
-    }
-    last < n
+    n < first || last < n
 }
 
 pub fn wide(b: u8) -> usize
