@@ -1,6 +1,5 @@
 -- `tables::make_table` meets its contract. The loop's invariant: the table holds the entries of the subtrees that the first i nodes
 -- leave (`Growing`).
-use Prim.Native.Nat.{◌-◌}
 use Rattle.plan.proofs.GrownLaws.{Growing}
 use Rattle.plan.proofs.tables.make_table.Given as goal
 
