@@ -33,15 +33,14 @@ fn totals_of(loads: &[u64; 128], centres: usize, chains: usize) -> [usize; 8]
 impl Table {
     // The left and the right child of a join at place `i`.
     #[tactic(auto, unfolding(crate::specs::Steps::left_of, crate::specs::Steps::right_of))]
-    pub fn children(&self, i: usize) -> (Node, Node)
+    pub fn children(&self, i: usize) -> (&Node, &Node)
         requires { i ≤ 31 }
-        ensures left { result.0 ≡ left_of self.now i }
-        ensures right { result.1 ≡ right_of self.now i }
+        ensures left { result.0.now ≡ left_of self.now i }
+        ensures right { result.1.now ≡ right_of self.now i }
     {
-        let r = i.saturating_sub(1);
-        let right = self.nodes[r];
-        let l = r.saturating_sub(right.span);
-        (self.nodes[l], right)
+        let right = &self.nodes[i.saturating_sub(1)];
+        let left = &self.nodes[i.saturating_sub(1).saturating_sub(right.span)];
+        (left, right)
     }
 }
 
@@ -94,7 +93,7 @@ pub fn make_table(m: Model, windows: [usize; 8]) -> Table
     for i in 0..m.count {
         let n = t.count;
         let (left, right) = t.children(n);
-        let e = made(ch, &loads, left, right, t.cells, nodes[i]);
+        let e = made(ch, &loads, *left, *right, t.cells, nodes[i]);
         t.nodes[n] = e;
         t.count = n + 1;
         t.cells = t.cells + e.cells;

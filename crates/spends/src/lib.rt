@@ -86,7 +86,7 @@ fn table_pairs(m: Model, windows: [usize; 8], t: Table, area: &mut [u64], q: Quo
     while i < t.count {
         let (left, right) = t.children(i);
         let own = t.nodes[i];
-        e = node_pairs(ch, left, right, own, area, e);
+        e = node_pairs(ch, *left, *right, own, area, e);
         i = joins::next(i, t.count, e.over, e.skip, e.budget);
     }
     e
