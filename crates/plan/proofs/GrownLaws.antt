@@ -22,7 +22,7 @@ use Rattle.modelfile.proofs.TreeLaws.{all_under}
 use Rattle.modelfile.proofs.Guaranteed.{Guaranteed}
 use Rattle.calls.proofs.FileLaws.{length_routes}
 use Rattle.plan.specs.Table.{row, counts_at, totals_of, pairs_at, entry, entries, windows_in, routes_in, Tabled}
-use Rattle.plan.specs.Steps.{Few, Small, count_by, no_node, right_of, left_of, shape_by, pairs_by, node_leaf, node_joined, node_by, node_made, with_node, empty_table, Ready}
+use Rattle.plan.specs.Steps.{Small, count_by, no_node, right_of, left_of, shape_by, pairs_by, node_leaf, node_joined, node_by, node_made, with_node, empty_table, Ready}
 use Rattle.plan.specs.declared.Chains.{Chains}
 use Rattle.plan.specs.declared.Node.{Node}
 use Rattle.plan.specs.declared.Table.{Table}
@@ -36,15 +36,15 @@ use Rattle.plan.proofs.ModelLaws.{loads_agree, tree_count}
 
 -- ---- the code's numbers stay small
 
-module _ (ch : Chains) (few : Few ch) (loads : List ℕ) (t : Table) where
+module _ (ch : Chains) (loads : List ℕ) (t : Table) where
   made_cells : (x : ℕ) → (node_made ch loads t x).cells ≤ 2 ^ 32
   unfolding node_made node_by node_leaf node_joined shape_by
-  made_cells zero = cells_few ch.windows few.window_range ch.totals _ 0 ch.count few.chains_few
-  made_cells (suc c) = cells_few ch.windows few.window_range ch.totals _ 0 ch.count few.chains_few
+  made_cells zero = cells_few ch.windows ch.window_range ch.totals _ 0 ch.count ch.chains_few
+  made_cells (suc c) = cells_few ch.windows ch.window_range ch.totals _ 0 ch.count ch.chains_few
 
   made_pairs : (x : ℕ) → (node_made ch loads t x).pairs ≤ 136 ^ 8
   unfolding node_made node_by node_leaf node_joined pairs_by
-  made_pairs zero = factors_few ch.windows few.window_range ch.totals _ _ _ 0 ch.count few.chains_few
+  made_pairs zero = factors_few ch.windows ch.window_range ch.totals _ _ _ 0 ch.count ch.chains_few
   made_pairs (suc c) = omega arith
 
 -- ---- one node more
@@ -240,36 +240,23 @@ module _ (m : Model) (g : Guaranteed m) (windows : List ℕ) (long : length wind
 -- what each turn has: the model, its chains, and the table so far
 pub record Growing (m : Model) (ch : Chains) (t : Table) (i : ℕ) : Type 0 where
   pub model : Guaranteed m
-  pub few : Few ch
+  pub windows_long : length ch.windows ≡ 8
   pub chains_are : ch.count ≡ m.chains
   pub totals_are : ch.totals ≡ t.totals
   pub grown : Grown m ch.windows t i
 
-pub growing_first : (m : Model) → Guaranteed m → (windows : List ℕ) → ((k : ℕ) → get_or windows k 0 ≤ 15) → length windows ≡ 8 → (totals : List ℕ) → totals ≡ row m.chains (λ k. count_by m.loads k (from 1 m.centres))
-    → (t : Table) → t ≡ empty_table totals → Growing m (record { count = m.chains; totals = totals; windows = windows }) t 0
+pub growing_first : {m : Model} (ch : Chains) → Guaranteed m → ch.count ≡ m.chains → length ch.windows ≡ 8 → ch.totals ≡ row m.chains (λ k. count_by m.loads k (from 1 m.centres))
+    → {t : Table} → t ≡ empty_table ch.totals → Growing m ch t 0
 unfolding empty_table
-growing_first m g windows small long totals e t et =
-    rw et
-    (record {
-      model = g;
-      few =
-          record {
-            chains_few = g.chains_range.1;
-            totals_long = ap length e ∙ length-row (λ k. count_by m.loads k (from 1 m.centres)) m.chains g.chains_range.1;
-            windows_long = long;
-            window_range = small;
-          };
-      chains_are = refl;
-      totals_are = refl;
-      grown = grown_first m g windows long totals e;
-    })
+growing_first {m} ch g count long e et =
+    rw et (record { model = g; windows_long = long; chains_are = count; totals_are = refl; grown = grown_first m g ch.windows long ch.totals e })
 
 pub growing_last : {m : Model} {ch : Chains} {t : Table} {i : ℕ} → Growing m ch t i → m.count ≤ i → Tabled m ch.windows t
-growing_last {m} {ch} {t} {i} w h = grown_last m w.model ch.windows w.few.windows_long t i w.grown h
+growing_last {m} {ch} {t} {i} w h = grown_last m w.model ch.windows w.windows_long t i w.grown h
 
 module _ {m : Model} {ch : Chains} {t : Table} {i : ℕ} (w : Growing m ch t i) (h : i < m.count) where
   count_same : t.count ≡ i
-  count_same = w.grown.standing.count_is ∙ stack_count (nodes_given m) (tree_of m) w.model.one_tree (tree_count m w.model) i (omega (arith, given_count m w.model ch.windows w.few.windows_long))
+  count_same = w.grown.standing.count_is ∙ stack_count (nodes_given m) (tree_of m) w.model.one_tree (tree_count m w.model) i (omega (arith, given_count m w.model ch.windows w.windows_long))
 
   pub count_low : t.count < 31
   count_low = omega (arith, count_same, w.model.count_range)
@@ -277,7 +264,7 @@ module _ {m : Model} {ch : Chains} {t : Table} {i : ℕ} (w : Growing m ch t i) 
   turn : Follows m ch.windows t (get_or m.nodes i 0) (node_made ch m.loads t (get_or m.nodes i 0)) (stack (nodes_given m) i) (stack (nodes_given m) (suc i))
   turn =
       let g = w.model in
-      let long = w.few.windows_long in
+      let long = w.windows_long in
       let n : i < length (nodes_given m) = omega (arith, given_count m g ch.windows long) in
       subst (λ x. Follows m ch.windows t x (node_made ch m.loads t x) (stack (nodes_given m) i) (stack (nodes_given m) (suc i))) (get_or-take m.count m.nodes i 0 h)
       (follows m g ch.windows long ch w.chains_are refl (w.totals_are ∙ w.grown.standing.totals_are) t (leaves_in (drop (suc i) (nodes_given m)))
@@ -299,10 +286,10 @@ module _ {m : Model} {ch : Chains} {t : Table} {i : ℕ} (w : Growing m ch t i) 
       made = ee ∙ (λ j. node_by ch m.loads (el j) (er j) t.cells (get_or m.nodes i 0))
 
       cells_low : e.cells ≤ 2 ^ 32
-      cells_low = subst (λ (n : Node). n.cells ≤ 2 ^ 32) (sym made) (made_cells ch w.few m.loads t (get_or m.nodes i 0))
+      cells_low = subst (λ (n : Node). n.cells ≤ 2 ^ 32) (sym made) (made_cells ch m.loads t (get_or m.nodes i 0))
 
       pairs_low : e.pairs ≤ 136 ^ 8
-      pairs_low = subst (λ (n : Node). n.pairs ≤ 136 ^ 8) (sym made) (made_pairs ch w.few m.loads t (get_or m.nodes i 0))
+      pairs_low = subst (λ (n : Node). n.pairs ≤ 136 ^ 8) (sym made) (made_pairs ch m.loads t (get_or m.nodes i 0))
 
       pub cells_fit : t.cells + e.cells < 2 ^ 64
       cells_fit = omega (arith, cells_low, w.grown.cells_low, w.model.count_range)
@@ -316,7 +303,7 @@ module _ {m : Model} {ch : Chains} {t : Table} {i : ℕ} (w : Growing m ch t i) 
           rw (add-one i)
           (record {
             model = w.model;
-            few = w.few;
+            windows_long = w.windows_long;
             chains_are = w.chains_are;
             totals_are = w.totals_are;
             grown =

@@ -17,8 +17,8 @@ pub record Prepared (m : Model) (windows : List ℕ) (t : Table) : Type 0 where
   pub tabled : Tabled m windows t
 
 -- the chains of a run
-abbrev pub chains_of : Model → List ℕ → Table → Chains
-chains_of m windows t = record { count = m.chains; totals = t.totals; windows = windows }
+abbrev pub chains_of : {m : Model} {windows : List ℕ} {t : Table} → Prepared m windows t → Chains
+chains_of {m} {windows} {t} p = record { count = m.chains; totals = t.totals; windows = windows; chains_few = p.guaranteed.chains_range.1; window_range = p.windows_low }
 
 pub record RunFor (asked : Rattle.calls.specs.Asked.Asked) (r : Run) : Type 0 where
   pub answer : asked_of r.asked r.model r.windows ≡ asked

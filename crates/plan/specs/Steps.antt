@@ -18,13 +18,6 @@ covering Cover.Finished = finished
 covering Cover.Partial = partial
 covering Cover.Absent = absent
 
--- at most 8 chains, with windows of at most 15
-pub record Few (ch : Chains) : Type 0 where
-  pub chains_few : ch.count ≤ 8
-  pub totals_long : length ch.totals ≡ 8
-  pub windows_long : length ch.windows ≡ 8
-  pub window_range : (k : ℕ) → get_or ch.windows k 0 ≤ 15
-
 -- chain k + 1 visits centre c, by the loads
 unfoldable pub loaded_by : List ℕ → ℕ → ℕ → Bool
 loaded_by loads k c = visit (get_or loads ((c - 1) * 8 + k) 0)

@@ -1,13 +1,12 @@
 // A node's array: how many cells it has, and how far apart they lie.
 ghost use Rattle.std.specs.Prelude.{◌≡◌};
-ghost use Rattle.plan.specs.Steps.{shape_by, Few};
+ghost use Rattle.plan.specs.Steps.{shape_by};
 
 use crate::coverage::{coverage, size, stride};
 use crate::{Chains, Shape};
 
 // From the last chain to the first: a chain's stride is the number of cells that the later chains make.
 pub fn shape(ch: Chains, counts: [usize; 8]) -> Shape
-    requires { Few ch }
     ensures { result ≡ shape_by ch counts }
 {
     let totals = ch.totals;

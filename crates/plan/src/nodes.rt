@@ -1,7 +1,7 @@
 // One node of the table: a leaf's from the loads, a join's from its children's.
 ghost use Rattle.std.specs.Prelude.{◌≡◌, ℕ, ◌+◌, ◌≤◌, ◌<◌, ◌∷◌, [], length, get_or};
 ghost use Rattle.plan.specs.Table.{row};
-ghost use Rattle.plan.specs.Steps.{loaded_by, count_by, added, pairs_by, node_leaf, node_joined, Few, Small};
+ghost use Rattle.plan.specs.Steps.{loaded_by, count_by, added, pairs_by, node_leaf, node_joined, Small};
 
 use crate::arrays::shape;
 use crate::coverage::{coverage, factor};
@@ -41,7 +41,6 @@ fn join_counts(left: [usize; 8], right: [usize; 8], chains: usize) -> [usize; 8]
 
 // The product of the chains' factors; `joined` has the counts at the join.
 fn pairs(ch: Chains, left: [usize; 8], right: [usize; 8], joined: [usize; 8]) -> u64
-    requires { Few ch }
     ensures { result ≡ pairs_by ch left right joined }
 {
     let totals = ch.totals;
@@ -57,7 +56,7 @@ fn pairs(ch: Chains, left: [usize; 8], right: [usize; 8], joined: [usize; 8]) ->
 }
 
 pub fn leaf_node(ch: Chains, loads: &[u64; 128], centre: usize, base: usize) -> Node
-    requires { Few ch × (1 ≤ centre) × (centre ≤ 16) }
+    requires { (1 ≤ centre) × (centre ≤ 16) }
     ensures { result ≡ node_leaf ch loads.now centre base }
 {
     let counts = leaf_counts(loads, ch.count, centre);
@@ -75,7 +74,7 @@ pub fn leaf_node(ch: Chains, loads: &[u64; 128], centre: usize, base: usize) -> 
 }
 
 pub fn join_node(ch: Chains, left: Node, right: Node, base: usize) -> Node
-    requires { Few ch × Small left × Small right }
+    requires { Small left × Small right }
     ensures { result ≡ node_joined ch left right base }
 {
     let l = left.counts;

@@ -7,7 +7,7 @@ ghost use Rattle.std.specs.List.{range_with_len};
 ghost use Rattle.plan.specs.Steps.{loaded_by};
 ghost use Rattle.modelfile.proofs.Guaranteed.{Guaranteed};
 ghost use Rattle.plan.specs.Table.{row, Tabled};
-ghost use Rattle.plan.specs.Steps.{count_by, left_of, right_of, node_by, empty_table, Few, Small};
+ghost use Rattle.plan.specs.Steps.{count_by, left_of, right_of, node_by, empty_table, Small};
 
 use crate::nodes::{join_node, leaf_node, visits};
 use crate::rows::row;
@@ -46,7 +46,7 @@ impl Table {
 
 // The entry of the next node: 0 is a join of the two entries, any other number a leaf's centre.
 fn made(ch: Chains, loads: &[u64; 128], left: Node, right: Node, base: usize, node: usize) -> Node
-    requires { Few ch × (node ≤ 16) × (node ≡ 0 → Small left × Small right) }
+    requires { (node ≤ 16) × (node ≡ 0 → Small left × Small right) }
     ensures { result ≡ node_by ch loads.now left right base node }
 {
     if node == 0 {
@@ -84,11 +84,7 @@ pub fn make_table(m: Model, windows: [usize; 8]) -> Table
     let loads = m.loads;
     let nodes = m.nodes;
     let totals = totals_of(&loads, m.centres, m.chains);
-    let ch = Chains {
-        count: m.chains,
-        totals,
-        windows,
-    };
+    let ch = Chains::new(m.chains, totals, windows);
     let mut t = empty_table(totals);
     for i in 0..m.count {
         let n = t.count;

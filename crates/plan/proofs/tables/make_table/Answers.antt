@@ -1,7 +1,10 @@
 -- `tables::make_table` meets its contract. The loop's invariant: the table holds the entries of the subtrees that the first i nodes
 -- leave (`Growing`).
+use mathlib.Core.Path.{refl, sym, subst}
+use Rattle.plan.specs.Table.{Tabled}
+use Rattle.plan.specs.declared.Chains.{Chains}
 use Rattle.plan.specs.Steps.{with_node}
-use Rattle.plan.proofs.GrownLaws.{growing_first, growing_last, count_low, node_low, children_small, cells_fit, pairs_fit, turn_growing}
+use Rattle.plan.proofs.GrownLaws.{Growing, growing_first, growing_last, count_low, node_low, children_small, cells_fit, pairs_fit, turn_growing}
 use native.Mathlib.Omega.{arith}
 use Rattle.plan.proofs.tables.make_table.Goals as goal
 
@@ -9,7 +12,8 @@ pub totals_of-totals-requires : goal.totals_of-totals-requires
 totals_of-totals-requires c = (c.requires.0.centres_range.1, c.requires.0.chains_range.1)
 
 pub loop-i-init : goal.loop-i-init
-loop-i-init c = growing_first _ c.requires.0 _ c.requires.1 c.requires.2 _ c.totals_of-totals.ensures _ c.empty_table-t.ensures
+loop-i-init c =
+    subst (λ ch. Growing c.args.m ch c.empty_table-t.result 0) (sym (c.new-ch.ensures c.requires.0.chains_range.1 c.requires.1)) (growing_first _ c.requires.0 refl c.requires.2 c.totals_of-totals.ensures c.empty_table-t.ensures)
 
 pub bounds-nodes-i : goal.bounds-nodes-i
 bounds-nodes-i c = omega (arith, c.requires.0.nodes_long, c.requires.0.count_range, c.loop-i-test.true)
@@ -18,7 +22,7 @@ pub children-requires : goal.children-requires
 children-requires c = omega (arith, count_low c.loop-i.invariant c.loop-i-test.true)
 
 pub made-e-requires : goal.made-e-requires
-made-e-requires c = (c.loop-i.invariant.few, node_low c.loop-i.invariant c.loop-i-test.true, children_small c.loop-i.invariant c.loop-i-test.true c.children.ensures.left c.children.ensures.right)
+made-e-requires c = (node_low c.loop-i.invariant c.loop-i-test.true, children_small c.loop-i.invariant c.loop-i-test.true c.children.ensures.left c.children.ensures.right)
 
 pub offset_bounds-t-n : goal.offset_bounds-t-n
 offset_bounds-t-n c = omega (arith, count_low c.loop-i.invariant c.loop-i-test.true)
@@ -40,4 +44,5 @@ unfolding with_node
 loop-i-preserved c = turn_growing c.loop-i.invariant c.loop-i-test.true c.children.ensures.left c.children.ensures.right c.made-e.ensures
 
 pub returns : goal.returns
-returns c = growing_last c.loop-i.invariant c.loop-i-test.false
+returns c =
+    subst (λ (ch : Chains). Tabled c.args.m ch.windows c.loop-i.t) (c.new-ch.ensures c.requires.0.chains_range.1 c.requires.1) (growing_last c.loop-i.invariant c.loop-i-test.false)
