@@ -20,6 +20,7 @@ use Rattle.calls.proofs.SlotLaws.{listed_pairs}
 use Rattle.plan.specs.Table.{totals_of, routes_in, windows_in}
 use Rattle.plan.specs.Steps.{no_node}
 use Rattle.plan.specs.Asking.{Prepared, chains_of}
+use Rattle.plan.specs.declared.Chains.{Chains}
 use Rattle.plan.specs.declared.Table.{Table}
 use Rattle.plan.proofs.RowLaws.{length-row}
 use Rattle.plan.proofs.EntriesLaws.{entry_of, entries-postorder}
@@ -36,6 +37,10 @@ module _ {m : Model} {windows : List ℕ} {t : Table} (p : Prepared m windows t)
 
   pub fits : Fit m (windows_in m windows)
   fits = fit m p.guaranteed (windows_in m windows) length_windows (take_low m.chains windows 15 p.windows_low)
+
+  -- the chains that the code makes
+  pub chains_made : {ch : Chains} → ((few : m.chains ≤ 8) (low : (k : ℕ) → get_or windows k 0 ≤ 15) → ch ≡ record { count = m.chains; totals = t.totals; windows = windows; chains_few = few; window_range = low }) → chains_of p ≡ ch
+  chains_made e = sym (e p.guaranteed.chains_range.1 p.windows_low)
 
   pub some_cells : 1 ≤ t.cells
   some_cells = omega (arith, p.tabled.cells_are, cells_some (routes_in m) (windows_in m windows) (tree_of m))

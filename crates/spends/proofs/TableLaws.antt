@@ -26,7 +26,7 @@ use Rattle.plan.specs.declared.Chains.{Chains}
 use Rattle.plan.specs.declared.Node.{Node}
 use Rattle.plan.specs.declared.Table.{Table}
 use Rattle.plan.proofs.EntriesLaws.{entry_of}
-use Rattle.plan.proofs.PreparedLaws.{tree_nodes, length_windows, few, parted_all, centre_range, length_nodes, entry_at}
+use Rattle.plan.proofs.PreparedLaws.{tree_nodes, length_windows, parted_all, centre_range, length_nodes, entry_at}
 use Rattle.joins.specs.Walk.{state, walk, ended, next_turn}
 use Rattle.joins.specs.declared.Quota.{Quota}
 use Rattle.joins.proofs.WalkLaws.{walk-append, walk-ended}
@@ -59,12 +59,12 @@ module _ {m : Model} {windows : List ℕ} {t : Table} (p : Prepared m windows t)
 
     -- the node with its children, where the code finds them
     pub node_in : {l r : Node} → l ≡ left_of t i → r ≡ right_of t i → (n old : ℕ) → n ≡ old → cells_in m (windows_in m windows) ≤ old
-        → (x : NodeIn (chains_of m windows t) l r (node_at t i) n) × (node_pairs x ≡ pairs_of (routes_in m) (windows_in m windows) (get_or (tree_nodes m windows) i nowhere))
+        → (x : NodeIn (chains_of p) l r (node_at t i) n) × (node_pairs x ≡ pairs_of (routes_in m) (windows_in m windows) (get_or (tree_nodes m windows) i nowhere))
     unfolding left_of right_of
     node_in a b n old same room = rw (a, b) (by (get_or (tree_nodes m windows) i nowhere) refl (parted_in (routes_in m) (windows_in m windows) (tree_of m) [] (parted_all p) 0 _ here_in) here_room)
       where
         by : (x : Tree × ℕ) → get_or (tree_nodes m windows) i nowhere ≡ x → (others : List ℕ) × Parted (routes_in m) (under x.0) others → x.1 + all_cells (routes_in m) (windows_in m windows) x.0 ≤ cells_in m (windows_in m windows)
-            → (y : NodeIn (chains_of m windows t) (left_of t i) (right_of t i) (node_at t i) n) × (node_pairs y ≡ pairs_of (routes_in m) (windows_in m windows) x)
+            → (y : NodeIn (chains_of p) (left_of t i) (right_of t i) (node_at t i) n) × (node_pairs y ≡ pairs_of (routes_in m) (windows_in m windows) x)
         by (leaf c, start) e parted low = (NodeIn.alone (routes_in m) (windows_in m windows) c start (entry_is i h (leaf c, start) e) (centre_range p c parted.0 parted.1).0, refl)
         by (join x y, start) e parted low =
             let k = children (routes_in m) (windows_in m windows) (tree_of m) 0 i (omega (arith, length_nodes p, length-postorder (routes_in m) (windows_in m windows) (tree_of m) 0)) x y start e in
@@ -77,7 +77,6 @@ module _ {m : Model} {windows : List ℕ} {t : Table} (p : Prepared m windows t)
                 l = x;
                 r = y;
                 start = start;
-                few = few p;
                 count_is = sym (length_windows p);
                 windows_are = refl;
                 left_is = ap (node_at t) place ∙ entry_is (i - 1 - nodes_in y) (omega (arith, k.enough, nodes_some x)) _ k.left;
@@ -89,6 +88,10 @@ module _ {m : Model} {windows : List ℕ} {t : Table} (p : Prepared m windows t)
               }),
               refl,
             )
+
+    -- of the chains that the code makes
+    pub node_ready : {ch : Chains} {l r : Node} → chains_of p ≡ ch → l ≡ left_of t i → r ≡ right_of t i → (n old : ℕ) → n ≡ old → cells_in m (windows_in m windows) ≤ old → NodeIn ch l r (node_at t i) n
+    node_ready {l = l} {r = r} e a b n old same room = subst (λ ch. NodeIn ch l r (node_at t i) n) e (node_in a b n old same room).0
 
     pairs_more : pairs_to m windows (i + 1) ≡ pairs_to m windows i ++ pairs_of (routes_in m) (windows_in m windows) (get_or (tree_nodes m windows) i nowhere)
     unfolding flat_map
@@ -118,7 +121,7 @@ module _ {m : Model} {windows : List ℕ} {t : Table} (p : Prepared m windows t)
 pub record Walked (t : Table) (ch : Chains) (q : Quota) (old : List ℕ) (e : Quota) (area : List ℕ) (i : ℕ) : Type 0 where
   pub low : i ≤ t.count
   pub long : length area ≡ length old
-  pub is : (m : Model) (windows : List ℕ) → Prepared m windows t → chains_of m windows t ≡ ch → cells_in m (windows_in m windows) ≤ length old → state e area ≡ walk (pairs_to m windows i) (state q old)
+  pub is : (m : Model) (windows : List ℕ) → (p : Prepared m windows t) → chains_of p ≡ ch → cells_in m (windows_in m windows) ≤ length old → state e area ≡ walk (pairs_to m windows i) (state q old)
 
 pub walked_first : (t : Table) (ch : Chains) (q : Quota) (old : List ℕ) → Walked t ch q old q old 0
 unfolding walk flat_map
@@ -160,5 +163,5 @@ module _ {t : Table} {ch : Chains} {q : Quota} {old : List ℕ} {e : Quota} {are
       }
       by false end d = rw (d ∙ sym a) w
 
-  pub walked_last : (m : Model) (windows : List ℕ) → Prepared m windows t → chains_of m windows t ≡ ch → cells_in m (windows_in m windows) ≤ length old → t.count ≤ i → state e area ≡ walk (pairs_listed m (windows_in m windows)) (state q old)
+  pub walked_last : (m : Model) (windows : List ℕ) → (p : Prepared m windows t) → chains_of p ≡ ch → cells_in m (windows_in m windows) ≤ length old → t.count ≤ i → state e area ≡ walk (pairs_listed m (windows_in m windows)) (state q old)
   walked_last m windows p c room h = w.is m windows p c room ∙ ap (λ ps. walk ps (state q old)) (pairs_all p i h)

@@ -76,11 +76,7 @@ fn table_pairs(m: Model, windows: [usize; 8], t: Table, area: &mut [u64], q: Quo
     requires room { cells_in m (windows_in m windows) ≤ length area.old }
     ensures { state result area.new ≡ walk (pairs_listed m (windows_in m windows)) (state q area.old) }
 {
-    let ch = Chains {
-        count: m.chains,
-        totals: t.totals,
-        windows,
-    };
+    let ch = Chains::new(m.chains, t.totals, windows);
     let mut e = q;
     let mut i = 0;
     while i < t.count {

@@ -3,8 +3,8 @@ use mathlib.Core.Path.{refl}
 use native.Mathlib.Omega.{arith}
 use borrow.Author.Rules.{rules}
 use Rattle.joins.proofs.TurnLaws.{turn_less}
-use Rattle.plan.proofs.PreparedLaws.{count_few}
-use Rattle.spends.proofs.TableLaws.{walked_first, walked_turn, walked_next, walked_last, node_in}
+use Rattle.plan.proofs.PreparedLaws.{count_few, chains_made}
+use Rattle.spends.proofs.TableLaws.{walked_first, walked_turn, walked_next, walked_last, node_ready}
 use Rattle.spends.proofs.table_pairs.Goals as goal
 
 pub loop-i-init : goal.loop-i-init
@@ -20,7 +20,8 @@ pub children-requires : goal.children-requires
 children-requires c = omega (arith, c.loop-i-test.true, count_few c.requires.prepared)
 
 pub node_pairs-e-requires : goal.node_pairs-e-requires
-node_pairs-e-requires c = (node_in c.requires.prepared _ c.loop-i-test.true c.children.ensures.left c.children.ensures.right _ _ c.loop-i.invariant.long c.requires.room).0
+node_pairs-e-requires c =
+    node_ready c.requires.prepared _ c.loop-i-test.true (chains_made c.requires.prepared c.new-ch.ensures) c.children.ensures.left c.children.ensures.right _ _ c.loop-i.invariant.long c.requires.room
 
 pub next-i-requires : goal.next-i-requires
 next-i-requires c = c.loop-i-test.true
@@ -35,4 +36,4 @@ pub shape_of-area : goal.shape_of-area
 shape_of-area c = c.loop-i.invariant.long
 
 pub returns : goal.returns
-returns c = walked_last c.loop-i.invariant _ _ c.requires.prepared refl c.requires.room c.loop-i-test.false
+returns c = walked_last c.loop-i.invariant _ _ c.requires.prepared (chains_made c.requires.prepared c.new-ch.ensures) c.requires.room c.loop-i-test.false
