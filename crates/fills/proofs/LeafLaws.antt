@@ -42,11 +42,11 @@ module _ (loads : List ℕ) (ch : Chains) (n : Node) (leaf : LeafIn loads ch n) 
 
     pub lows_room : ch.count ≤ length e.lows
     unfolding ends_by
-    lows_room = rw ee (omega (arith, length-row (λ k. lowest (span_at ch n.counts k)) ch.count leaf.few.chains_few, leaf.few.chains_few))
+    lows_room = rw ee (omega (arith, length-row (λ k. lowest (span_at ch n.counts k)) ch.count ch.chains_few, ch.chains_few))
 
     pub highs_room : ch.count ≤ length e.highs
     unfolding ends_by
-    highs_room = rw ee (omega (arith, length-row (λ k. highest (span_at ch n.counts k)) ch.count leaf.few.chains_few, leaf.few.chains_few))
+    highs_room = rw ee (omega (arith, length-row (λ k. highest (span_at ch n.counts k)) ch.count ch.chains_few, ch.chains_few))
 
     pub lows_length : ch.count ≡ length (take ch.count e.lows)
     lows_length = sym (length-take-le ch.count e.lows lows_room)

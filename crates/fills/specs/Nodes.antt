@@ -5,7 +5,7 @@ use Rattle.network.specs.Weight.{weight}
 use Rattle.network.proofs.CoverageLaws.{coverage_by_count}
 use Rattle.weights.specs.Leaf.{lowest, highest, LeafEnds}
 use Rattle.plan.specs.Table.{row}
-use Rattle.plan.specs.Steps.{Few, spans_by}
+use Rattle.plan.specs.Steps.{spans_by}
 use Rattle.plan.specs.declared.Chains.{Chains}
 use Rattle.plan.specs.declared.Node.{Node}
 use Rattle.fills.specs.declared.leaves.Ends.{Ends}
@@ -41,7 +41,6 @@ put at cells area = take at area ++ (cells ++ drop (at + length cells) area)
 
 -- a leaf whose cells can be written
 pub record LeafIn (loads : List ℕ) (ch : Chains) (n : Node) : Type 0 where
-  pub few : Few ch
   pub centre_range : (1 ≤ n.centre) × (n.centre ≤ 16)
   pub loads_long : length loads ≡ 128
   pub ends : LeafEnds (loads_in loads ch n) (map lowest (spans_in ch n)) (map highest (spans_in ch n))

@@ -5,7 +5,7 @@ ghost use Rattle.network.specs.Cells.{span};
 ghost use Rattle.calls.specs.Start.{too_large};
 ghost use Rattle.binomials.specs.Rows.{rows as rows_of};
 ghost use Rattle.weights.specs.Leaf.{lowest, highest};
-ghost use Rattle.plan.specs.Steps.{covering, Few};
+ghost use Rattle.plan.specs.Steps.{covering};
 ghost use Rattle.fills.specs.Nodes.{ends_by, leaf_cells, put, LeafIn};
 
 use plan::{Chains, Cover, Node};
@@ -38,7 +38,6 @@ fn high_end(c: Cover, window: usize) -> usize
 }
 
 fn ends_of(ch: Chains, counts: [usize; 8]) -> Ends
-    requires { Few ch }
     ensures { result ≡ ends_by ch counts }
 {
     let totals = ch.totals;

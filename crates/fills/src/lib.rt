@@ -58,12 +58,7 @@ pub fn some_leaf_too_large(rows: &[u64], m: Model, windows: [usize; 8], t: Table
 {
     let loads = m.loads;
     let nodes = t.nodes;
-    let totals = t.totals;
-    let ch = Chains {
-        count: m.chains,
-        totals,
-        windows,
-    };
+    let ch = Chains::new(m.chains, t.totals, windows);
     let mut i = 0;
     while i < t.count {
         if node_too_large(rows, &loads, ch, nodes[i]) {
@@ -83,12 +78,7 @@ pub fn fill(rows: &[u64], m: Model, windows: [usize; 8], t: Table, area: &mut [u
 {
     let loads = m.loads;
     let nodes = t.nodes;
-    let totals = t.totals;
-    let ch = Chains {
-        count: m.chains,
-        totals,
-        windows,
-    };
+    let ch = Chains::new(m.chains, t.totals, windows);
     let mut next = 0;
     while next < t.count {
         write_node(rows, &loads, ch, nodes[next], area);

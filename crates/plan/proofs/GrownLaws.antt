@@ -26,7 +26,7 @@ use Rattle.plan.specs.Steps.{Small, count_by, no_node, right_of, left_of, shape_
 use Rattle.plan.specs.declared.Chains.{Chains}
 use Rattle.plan.specs.declared.Node.{Node}
 use Rattle.plan.specs.declared.Table.{Table}
-use Rattle.plan.proofs.RowLaws.{length-row, row_few, take_is}
+use Rattle.plan.proofs.RowLaws.{row_few, take_is}
 use Rattle.plan.proofs.ThoseLaws.{those_few}
 use Rattle.plan.proofs.FewLaws.{cells_few, factors_few}
 use Rattle.plan.proofs.StackLaws.{Next, nodes_of, leaves_in, nodes_under, stack, parted_stack, stack_count, next}

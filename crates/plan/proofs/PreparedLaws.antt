@@ -17,12 +17,11 @@ use Rattle.modelfile.specs.declared.Model.{Model}
 use Rattle.calls.specs.Asked.{pairs_listed}
 use Rattle.calls.proofs.FileLaws.{Fit, fit, take_low, length_routes}
 use Rattle.calls.proofs.SlotLaws.{listed_pairs}
-use Rattle.plan.specs.Table.{totals_of, routes_in, windows_in}
+use Rattle.plan.specs.Table.{routes_in, windows_in}
 use Rattle.plan.specs.Steps.{no_node}
 use Rattle.plan.specs.Asking.{Prepared, chains_of}
 use Rattle.plan.specs.declared.Chains.{Chains}
 use Rattle.plan.specs.declared.Table.{Table}
-use Rattle.plan.proofs.RowLaws.{length-row}
 use Rattle.plan.proofs.EntriesLaws.{entry_of, entries-postorder}
 
 -- the nodes of a model's tree, each with where its subtree's cells begin

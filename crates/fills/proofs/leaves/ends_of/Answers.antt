@@ -10,8 +10,8 @@ loop-k-init c = (rowed_first _ _, rowed_first _ _)
 
 pub loop-k-preserved : goal.loop-k-preserved
 loop-k-preserved c = (
-  end_turn lowest c.args.ch c.args.counts _ c.loop-k.invariant.0 c.loop-k-test.true c.requires.chains_few c.coverage-cover.ensures c.low_end.ensures,
-  end_turn highest c.args.ch c.args.counts _ c.loop-k.invariant.1 c.loop-k-test.true c.requires.chains_few c.coverage-cover.ensures c.high_end.ensures,
+  end_turn lowest c.args.ch c.args.counts _ c.loop-k.invariant.0 c.loop-k-test.true c.args.ch.chains_few c.coverage-cover.ensures c.low_end.ensures,
+  end_turn highest c.args.ch c.args.counts _ c.loop-k.invariant.1 c.loop-k-test.true c.args.ch.chains_few c.coverage-cover.ensures c.high_end.ensures,
 )
 
 pub returns : goal.returns
