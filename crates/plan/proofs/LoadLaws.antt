@@ -1,34 +1,18 @@
--- Counting visits by the loads: a chain visits a centre exactly if its load there is not 0.
+-- Counting visits by the loads: those that std's `count_by` counts over a range are the definition's.
 use Prim.Native.Nat.{ℕ, zero, suc, ◌+◌}
 use mathlib.Core.Path.{◌≡◌, refl, ◌∙◌}
-use mathlib.Core.Bool.{Bool, true, false, not}
+use mathlib.Core.Bool.{Bool, true, false}
 use mathlib.Core.List.{List, [], ◌∷◌, ◌++◌}
 use native.Mathlib.Omega.{arith}
 use native.Mathlib.Numerals.{add-one}
-use lib.Dec.{eqb}
-use borrow.Author.Tests.{ne_eqb}
 use lib.ListN.{length}
 use Rattle.std.specs.Prelude.{cond, count_by as counting}
 use Rattle.std.specs.List.{range_with_len}
 use Rattle.std.proofs.lemmas.List.Sums.{sum_by-cons}
-use Rattle.std.specs.Int.{from_bool}
 use Rattle.sums.specs.Lists.{from, those, when}
-use Rattle.network.specs.Centre.{visit}
 use Rattle.plan.specs.Steps.{loaded_by, count_by}
 
--- the code's test is the definition's
-pub visit_is : (load : ℕ) → not (eqb load 0) ≡ visit load
-unfolding visit
-visit_is zero = refl
-visit_is (suc load) = rw (ne_eqb (suc load) 0 (λ e. omega arith))
-
 module _ (loads : List ℕ) (k : ℕ) where
-  -- of one centre
-  pub counted_one : (c : ℕ) (b : Bool) (n : ℕ) → b ≡ loaded_by loads k c → n ≡ from_bool b → n ≡ count_by loads k (c ∷ [])
-  unfolding count_by those when
-  counted_one c true n e h = rw (h, ← e)
-  counted_one c false n e h = rw (h, ← e)
-
   -- of n centres from a + 1 on
   with_one : (c m : ℕ) (b : Bool) (rest : List ℕ) → m ≡ length rest → cond b 1 0 + m ≡ length (when b (c ∷ []) ++ rest)
   unfolding when

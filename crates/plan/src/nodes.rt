@@ -9,6 +9,7 @@ use crate::rows::row;
 use crate::{Chains, Node};
 
 // Whether the chain at `k`, counted from 0, visits the centre.
+#[tactic(auto, unfolding(crate::specs::Steps::loaded_by, network::specs::Centre::visit))]
 pub fn visits(loads: &[u64; 128], centre: usize, k: usize) -> bool
     requires { (1 ≤ centre) × (centre ≤ 16) × (k < 8) }
     ensures { result ≡ loaded_by loads.now k centre }
@@ -17,6 +18,7 @@ pub fn visits(loads: &[u64; 128], centre: usize, k: usize) -> bool
 }
 
 // 1 if the chain at `k`, counted from 0, visits the centre, else 0.
+#[tactic(auto, unfolding(crate::specs::Steps::count_by, sums::specs::Lists::those, sums::specs::Lists::when))]
 pub fn visiting(loads: &[u64; 128], centre: usize, k: usize) -> usize
     requires { (1 ≤ centre) × (centre ≤ 16) × (k < 8) }
     ensures { result ≡ count_by loads.now k (centre ∷ []) }
@@ -55,6 +57,7 @@ fn pairs(ch: Chains, left: [usize; 8], right: [usize; 8], joined: [usize; 8]) ->
     product as u64
 }
 
+#[tactic(auto, unfolding(crate::specs::Steps::node_leaf))]
 pub fn leaf_node(ch: Chains, loads: &[u64; 128], centre: usize, base: usize) -> Node
     requires { (1 ≤ centre) × (centre ≤ 16) }
     ensures { result ≡ node_leaf ch loads.now centre base }
@@ -73,6 +76,7 @@ pub fn leaf_node(ch: Chains, loads: &[u64; 128], centre: usize, base: usize) -> 
     }
 }
 
+#[tactic(auto, unfolding(crate::specs::Steps::node_joined))]
 pub fn join_node(ch: Chains, left: Node, right: Node, base: usize) -> Node
     requires { Small left × Small right }
     ensures { result ≡ node_joined ch left right base }

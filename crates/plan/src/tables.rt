@@ -55,6 +55,7 @@ fn made(ch: Chains, loads: &[u64; 128], left: Node, right: Node, base: usize, no
     leaf_node(ch, loads, node, base)
 }
 
+#[tactic(auto, unfolding(crate::specs::Steps::empty_table))]
 pub fn empty_table(totals: [usize; 8]) -> Table
     ensures { result ≡ empty_table totals }
 {

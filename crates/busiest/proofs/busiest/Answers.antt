@@ -17,9 +17,6 @@ loop-centre-preserved c =
       | else-most-sum w ↦ rw (w.busiest-is, w.most-is) (busy_kept loop.invariant c.loop-centre-test.true c.load_sum-sum.ensures w.if-most-sum.false)
     ]
 
-pub returns : goal.returns
-returns c = busy_last c.loop-centre.invariant c.loop-centre-test.false
-
 pub returns-after-most-sum : goal.returns-after-most-sum
 returns-after-most-sum c =
     let loop = c.loop-centre in

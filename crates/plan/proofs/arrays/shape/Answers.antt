@@ -6,9 +6,6 @@ use Rattle.plan.proofs.arrays.shape.Goals as goal
 pub loop-k-init : goal.loop-k-init
 loop-k-init c = shaped_first _ _ _ _ c.args.ch.chains_few
 
-pub size-cells-requires : goal.size-cells-requires
-size-cells-requires c = c.args.ch.window_range _
-
 pub overflow_mul-cells : goal.overflow_mul-cells
 overflow_mul-cells c = record { fits = omega (arith, shaped_few _ _ _ _ c.args.ch.chains_few c.args.ch.window_range (shaped_turn _ _ _ _ _ (omega arith) c.loop-k.invariant c.coverage-cover.ensures c.stride.ensures c.size-cells.ensures)) }
 

@@ -6,9 +6,6 @@ use Rattle.plan.proofs.nodes.pairs.Goals as goal
 pub loop-k-init : goal.loop-k-init
 loop-k-init c = product_first _ _ _ _ _ _
 
-pub factor-product-requires : goal.factor-product-requires
-factor-product-requires c = c.args.ch.window_range _
-
 pub overflow_mul-product : goal.overflow_mul-product
 overflow_mul-product c = record { fits = omega (arith, product_few _ _ _ _ _ _ c.args.ch.chains_few c.args.ch.window_range (product_turn _ _ _ _ _ _ _ _ _ (omega arith) c.loop-k.invariant c.coverage-l.ensures c.coverage-r.ensures c.coverage-j.ensures c.factor-product.ensures)) }
 

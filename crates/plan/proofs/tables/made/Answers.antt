@@ -16,9 +16,6 @@ unfolding node_by
 by-leaf ch loads l r b zero h = absurd (h refl)
 by-leaf ch loads l r b (suc c) h = refl
 
-pub join_node-requires : goal.join_node-requires
-join_node-requires c = c.requires.1 c.if-node-eq0.true
-
 pub returns-then-node-eq0 : goal.returns-then-node-eq0
 returns-then-node-eq0 c = c.join_node.ensures ∙ by-join _ _ _ _ _ _ c.if-node-eq0.true
 

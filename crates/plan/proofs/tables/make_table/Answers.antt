@@ -8,30 +8,15 @@ use Rattle.plan.proofs.GrownLaws.{Growing, growing_first, growing_last, count_lo
 use native.Mathlib.Omega.{arith}
 use Rattle.plan.proofs.tables.make_table.Goals as goal
 
-pub totals_of-totals-requires : goal.totals_of-totals-requires
-totals_of-totals-requires c = (c.requires.0.centres_range.1, c.requires.0.chains_range.1)
-
 pub loop-i-init : goal.loop-i-init
 loop-i-init c =
     subst (λ ch. Growing c.args.m ch c.empty_table-t.result 0) (sym (c.new-ch.ensures c.requires.0.chains_range.1 c.requires.1)) (growing_first _ c.requires.0 refl c.requires.2 c.totals_of-totals.ensures c.empty_table-t.ensures)
 
-pub bounds-nodes-i : goal.bounds-nodes-i
-bounds-nodes-i c = omega (arith, c.requires.0.nodes_long, c.requires.0.count_range, c.loop-i-test.true)
-
-pub children-requires : goal.children-requires
-children-requires c = omega (arith, count_low c.loop-i.invariant c.loop-i-test.true)
-
 pub made-e-requires : goal.made-e-requires
 made-e-requires c = (node_low c.loop-i.invariant c.loop-i-test.true, children_small c.loop-i.invariant c.loop-i-test.true c.children.ensures.left c.children.ensures.right)
 
-pub offset_bounds-t-n : goal.offset_bounds-t-n
-offset_bounds-t-n c = omega (arith, count_low c.loop-i.invariant c.loop-i-test.true)
-
 pub bounds-t-n : goal.bounds-t-n
 bounds-t-n c = omega (arith, count_low c.loop-i.invariant c.loop-i-test.true)
-
-pub overflow_add-t : goal.overflow_add-t
-overflow_add-t c = record { fits = omega (arith, count_low c.loop-i.invariant c.loop-i-test.true) }
 
 pub overflow_add-t-in-loop-i : goal.overflow_add-t-in-loop-i
 overflow_add-t-in-loop-i c = record { fits = cells_fit c.loop-i.invariant c.loop-i-test.true c.children.ensures.left c.children.ensures.right c.made-e.ensures }
