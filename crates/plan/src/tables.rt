@@ -45,14 +45,16 @@ impl Table {
 }
 
 // The entry of the next node: 0 is a join of the two entries, any other number a leaf's centre.
+#[tactic(auto, unfolding(crate::specs::Steps::node_by))]
 fn made(ch: Chains, loads: &[u64; 128], left: Node, right: Node, base: usize, node: usize) -> Node
     requires { (node ≤ 16) × (node ≡ 0 → Small left × Small right) }
     ensures { result ≡ node_by ch loads.now left right base node }
 {
     if node == 0 {
-        return join_node(ch, left, right, base);
+        join_node(ch, left, right, base)
+    } else {
+        leaf_node(ch, loads, node, base)
     }
-    leaf_node(ch, loads, node, base)
 }
 
 #[tactic(auto, unfolding(crate::specs::Steps::empty_table))]
