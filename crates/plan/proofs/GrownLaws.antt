@@ -251,51 +251,51 @@ unfolding empty_table
 growing_first {m} ch g count long e et =
     rw et (record { model = g; windows_long = long; chains_are = count; totals_are = refl; grown = grown_first m g ch.windows long ch.totals e })
 
-pub growing_last : {m : Model} {ch : Chains} {t : Table} {i : ℕ} → Growing m ch t i → m.count ≤ i → Tabled m ch.windows t
-growing_last {m} {ch} {t} {i} w h = grown_last m w.model ch.windows w.windows_long t i w.grown h
+pub growing_last : {m : Model} {ch : Chains} {t : Table} {i : ℕ} → Growing m ch t i → length (nodes_given m) ≤ i → Tabled m ch.windows t
+growing_last {m} {ch} {t} {i} w h = grown_last m w.model ch.windows w.windows_long t i w.grown (omega (arith, given_count m w.model ch.windows w.windows_long))
 
-module _ {m : Model} {ch : Chains} {t : Table} {i : ℕ} (w : Growing m ch t i) (h : i < m.count) where
+module _ {m : Model} {ch : Chains} {t : Table} {i : ℕ} (w : Growing m ch t i) (h : i < length (nodes_given m)) where
+  low : i < m.count
+  low = omega (arith, given_count m w.model ch.windows w.windows_long)
+
   count_same : t.count ≡ i
   count_same = w.grown.standing.count_is ∙ stack_count (nodes_given m) (tree_of m) w.model.one_tree (tree_count m w.model) i (omega (arith, given_count m w.model ch.windows w.windows_long))
 
   pub count_low : t.count < 31
-  count_low = omega (arith, count_same, w.model.count_range)
+  count_low = omega (arith, count_same, low, w.model.count_range)
 
-  turn : Follows m ch.windows t (get_or m.nodes i 0) (node_made ch m.loads t (get_or m.nodes i 0)) (stack (nodes_given m) i) (stack (nodes_given m) (suc i))
+  turn : Follows m ch.windows t (get_or (nodes_given m) i 0) (node_made ch m.loads t (get_or (nodes_given m) i 0)) (stack (nodes_given m) i) (stack (nodes_given m) (suc i))
   turn =
       let g = w.model in
-      let long = w.windows_long in
-      let n : i < length (nodes_given m) = omega (arith, given_count m g ch.windows long) in
-      subst (λ x. Follows m ch.windows t x (node_made ch m.loads t x) (stack (nodes_given m) i) (stack (nodes_given m) (suc i))) (get_or-take m.count m.nodes i 0 h)
-      (follows m g ch.windows long ch w.chains_are refl (w.totals_are ∙ w.grown.standing.totals_are) t (leaves_in (drop (suc i) (nodes_given m)))
-      (next (nodes_given m) (tree_of m) g.one_tree (tree_count m g) i n)
+      follows m g ch.windows w.windows_long ch w.chains_are refl (w.totals_are ∙ w.grown.standing.totals_are) t (leaves_in (drop (suc i) (nodes_given m)))
+      (next (nodes_given m) (tree_of m) g.one_tree (tree_count m g) i h)
       w.grown.standing
-      (parted_stack (nodes_given m) (tree_of m) g.one_tree (tree_count m g) (suc i)))
+      (parted_stack (nodes_given m) (tree_of m) g.one_tree (tree_count m g) (suc i))
 
-  pub node_low : get_or m.nodes i 0 ≤ 16
+  pub node_low : get_or (nodes_given m) i 0 ≤ 16
   node_low = turn.ready.leaf_range
 
   -- by the two children that the code takes out
   module _ {l r : Node} (el : l ≡ left_of t t.count) (er : r ≡ right_of t t.count) where
-    pub children_small : get_or m.nodes i 0 ≡ 0 → Small l × Small r
+    pub children_small : get_or (nodes_given m) i 0 ≡ 0 → Small l × Small r
     children_small z = (subst Small (sym el) (turn.ready.left_small z), subst Small (sym er) (turn.ready.right_small z))
 
-    module _ {e : Node} (ee : e ≡ node_by ch m.loads l r t.cells (get_or m.nodes i 0)) where
-      made : e ≡ node_made ch m.loads t (get_or m.nodes i 0)
+    module _ {e : Node} (ee : e ≡ node_by ch m.loads l r t.cells (get_or (nodes_given m) i 0)) where
+      made : e ≡ node_made ch m.loads t (get_or (nodes_given m) i 0)
       unfolding node_made
-      made = ee ∙ (λ j. node_by ch m.loads (el j) (er j) t.cells (get_or m.nodes i 0))
+      made = ee ∙ (λ j. node_by ch m.loads (el j) (er j) t.cells (get_or (nodes_given m) i 0))
 
       cells_low : e.cells ≤ 2 ^ 32
-      cells_low = subst (λ (n : Node). n.cells ≤ 2 ^ 32) (sym made) (made_cells ch m.loads t (get_or m.nodes i 0))
+      cells_low = subst (λ (n : Node). n.cells ≤ 2 ^ 32) (sym made) (made_cells ch m.loads t (get_or (nodes_given m) i 0))
 
       pairs_low : e.pairs ≤ 136 ^ 8
-      pairs_low = subst (λ (n : Node). n.pairs ≤ 136 ^ 8) (sym made) (made_pairs ch m.loads t (get_or m.nodes i 0))
+      pairs_low = subst (λ (n : Node). n.pairs ≤ 136 ^ 8) (sym made) (made_pairs ch m.loads t (get_or (nodes_given m) i 0))
 
       pub cells_fit : t.cells + e.cells < 2 ^ 64
-      cells_fit = omega (arith, cells_low, w.grown.cells_low, w.model.count_range)
+      cells_fit = omega (arith, cells_low, w.grown.cells_low, low, w.model.count_range)
 
       pub pairs_fit : t.pairs + e.pairs < 2 ^ 64
-      pairs_fit = omega (arith, pairs_low, w.grown.pairs_low, w.model.count_range)
+      pairs_fit = omega (arith, pairs_low, w.grown.pairs_low, low, w.model.count_range)
 
       pub turn_growing : Growing m ch (with_node t e) (i + 1)
       unfolding with_node
@@ -308,8 +308,8 @@ module _ {m : Model} {ch : Chains} {t : Table} {i : ℕ} (w : Growing m ch t i) 
             totals_are = w.totals_are;
             grown =
                 record {
-                  at_most = omega arith;
-                  standing = standing_more t e w.grown.standing (subst (λ n. Follows m ch.windows t (get_or m.nodes i 0) n (stack (nodes_given m) i) (stack (nodes_given m) (suc i))) (sym made) turn) count_low;
+                  at_most = omega (arith, low);
+                  standing = standing_more t e w.grown.standing (subst (λ n. Follows m ch.windows t (get_or (nodes_given m) i 0) n (stack (nodes_given m) i) (stack (nodes_given m) (suc i))) (sym made) turn) count_low;
                   cells_low = omega (arith, cells_low, w.grown.cells_low);
                   pairs_low = omega (arith, pairs_low, w.grown.pairs_low);
                 };

@@ -6,7 +6,7 @@ ghost use Rattle.plan.specs.Steps.{loaded_by, count_by, added, pairs_by, node_le
 use crate::arrays::shape;
 use crate::coverage::{coverage, factor};
 use crate::rows::row;
-use crate::{Chains, Node};
+use crate::{Chains, Node, Shape};
 
 // Whether the chain at `k`, counted from 0, visits the centre.
 #[tactic(auto, unfolding(crate::specs::Steps::loaded_by, network::specs::Centre::visit))]
@@ -34,66 +34,59 @@ fn leaf_counts(loads: &[u64; 128], chains: usize, centre: usize) -> [usize; 8]
 }
 
 #[tactic(auto, unfolding(crate::specs::Steps::added))]
-fn join_counts(left: [usize; 8], right: [usize; 8], chains: usize) -> [usize; 8]
-    requires { (chains ≤ 8) × ((k : ℕ) → get_or left k 0 ≤ 31) × ((k : ℕ) → get_or right k 0 ≤ 31) }
-    ensures { result ≡ added chains left right }
+fn join_counts(left: &[usize; 8], right: &[usize; 8], chains: usize) -> [usize; 8]
+    requires { (chains ≤ 8) × ((k : ℕ) → get_or left.now k 0 ≤ 31) × ((k : ℕ) → get_or right.now k 0 ≤ 31) }
+    ensures { result ≡ added chains left.now right.now }
 {
     row(chains, |k| left[k] + right[k])
 }
 
 // The product of the chains' factors; `joined` has the counts at the join.
-fn pairs(ch: Chains, left: [usize; 8], right: [usize; 8], joined: [usize; 8]) -> u64
-    ensures { result ≡ pairs_by ch left right joined }
+fn pairs(ch: &Chains, left: &[usize; 8], right: &[usize; 8], joined: &[usize; 8]) -> u64
+    ensures { result ≡ pairs_by ch.now left.now right.now joined.now }
 {
-    let totals = ch.totals;
-    let windows = ch.windows;
     let mut product: usize = 1;
     for k in (0..ch.count).rev() {
-        let l = coverage(left[k], totals[k]);
-        let r = coverage(right[k], totals[k]);
-        let j = coverage(joined[k], totals[k]);
-        product = factor(l, r, j, windows[k]) * product;
+        let l = coverage(left[k], ch.totals[k]);
+        let r = coverage(right[k], ch.totals[k]);
+        let j = coverage(joined[k], ch.totals[k]);
+        product = factor(l, r, j, ch.windows[k]) * product;
     }
     product as u64
 }
 
 #[tactic(auto, unfolding(crate::specs::Steps::node_leaf))]
-pub fn leaf_node(ch: Chains, loads: &[u64; 128], centre: usize, base: usize) -> Node
+pub fn leaf_node(ch: &Chains, loads: &[u64; 128], centre: usize, base: usize) -> Node
     requires { (1 ≤ centre) × (centre ≤ 16) }
-    ensures { result ≡ node_leaf ch loads.now centre base }
+    ensures { result ≡ node_leaf ch.now loads.now centre base }
 {
     let counts = leaf_counts(loads, ch.count, centre);
-    let s = shape(ch, counts);
-    let strides = s.strides;
+    let Shape { cells, strides } = shape(ch, &counts);
     Node {
         centre,
         span: 1,
         counts,
         base,
-        cells: s.cells,
+        cells,
         strides,
         pairs: 0,
     }
 }
 
 #[tactic(auto, unfolding(crate::specs::Steps::node_joined))]
-pub fn join_node(ch: Chains, left: Node, right: Node, base: usize) -> Node
-    requires { Small left × Small right }
-    ensures { result ≡ node_joined ch left right base }
+pub fn join_node(ch: &Chains, left: &Node, right: &Node, base: usize) -> Node
+    requires { Small left.now × Small right.now }
+    ensures { result ≡ node_joined ch.now left.now right.now base }
 {
-    let l = left.counts;
-    let r = right.counts;
-    let counts = join_counts(l, r, ch.count);
-    let s = shape(ch, counts);
-    let strides = s.strides;
-    let own = pairs(ch, l, r, counts);
+    let counts = join_counts(&left.counts, &right.counts, ch.count);
+    let Shape { cells, strides } = shape(ch, &counts);
     Node {
         centre: 0,
         span: left.span + right.span + 1,
         counts,
         base,
-        cells: s.cells,
+        cells,
         strides,
-        pairs: own,
+        pairs: pairs(ch, &left.counts, &right.counts, &counts),
     }
 }

@@ -46,9 +46,16 @@ impl Table {
 
 // The entry of the next node: 0 is a join of the two entries, any other number a leaf's centre.
 #[tactic(auto, unfolding(crate::specs::Steps::node_by))]
-fn made(ch: Chains, loads: &[u64; 128], left: Node, right: Node, base: usize, node: usize) -> Node
-    requires { (node ≤ 16) × (node ≡ 0 → Small left × Small right) }
-    ensures { result ≡ node_by ch loads.now left right base node }
+fn made(
+    ch: &Chains,
+    loads: &[u64; 128],
+    left: &Node,
+    right: &Node,
+    base: usize,
+    node: usize,
+) -> Node
+    requires { (node ≤ 16) × (node ≡ 0 → Small left.now × Small right.now) }
+    ensures { result ≡ node_by ch.now loads.now left.now right.now base node }
 {
     if node == 0 {
         join_node(ch, left, right, base)
@@ -84,19 +91,17 @@ pub fn make_table(m: Model, windows: [usize; 8]) -> Table
     requires { Guaranteed m × ((k : ℕ) → get_or windows k 0 ≤ 15) × (length windows ≡ 8) }
     ensures { Tabled m windows result }
 {
-    let loads = m.loads;
-    let nodes = m.nodes;
-    let totals = totals_of(&loads, m.centres, m.chains);
+    let totals = totals_of(&m.loads, m.centres, m.chains);
     let ch = Chains::new(m.chains, totals, windows);
     let mut t = empty_table(totals);
-    for i in 0..m.count {
+    for node in &m.nodes[..m.count] {
         let n = t.count;
         let (left, right) = t.children(n);
-        let e = made(ch, &loads, *left, *right, t.cells, nodes[i]);
+        let e = made(&ch, &m.loads, left, right, t.cells, *node);
         t.nodes[n] = e;
-        t.count = n + 1;
-        t.cells = t.cells + e.cells;
-        t.pairs = t.pairs + e.pairs;
+        t.count += 1;
+        t.cells += e.cells;
+        t.pairs += e.pairs;
     }
     t
 }

@@ -1,4 +1,4 @@
--- `tables::make_table` meets its contract. The loop's invariant: the table holds the entries of the subtrees that the first i nodes
+-- `tables::make_table` meets its contract. The loop's invariant: the table holds the entries of the subtrees that the nodes so far
 -- leave (`Growing`).
 use mathlib.Core.Path.{refl, sym, subst}
 use Rattle.plan.specs.Table.{Tabled}
@@ -8,26 +8,35 @@ use Rattle.plan.proofs.GrownLaws.{Growing, growing_first, growing_last, count_lo
 use native.Mathlib.Omega.{arith}
 use Rattle.plan.proofs.tables.make_table.Goals as goal
 
-pub loop-i-init : goal.loop-i-init
-loop-i-init c =
+pub loop-node-init : goal.loop-node-init
+loop-node-init c =
     subst (λ ch. Growing c.args.m ch c.empty_table-t.result 0) (sym (c.new-ch.ensures c.requires.0.chains_range.1 c.requires.1)) (growing_first _ c.requires.0 refl c.requires.2 c.totals_of-totals.ensures c.empty_table-t.ensures)
 
+pub children-requires : goal.children-requires
+children-requires c = omega (arith, count_low c.loop-node.invariant c.loop-node-test.true)
+
 pub made-e-requires : goal.made-e-requires
-made-e-requires c = (node_low c.loop-i.invariant c.loop-i-test.true, children_small c.loop-i.invariant c.loop-i-test.true c.children.ensures.left c.children.ensures.right)
+made-e-requires c = (node_low c.loop-node.invariant c.loop-node-test.true, children_small c.loop-node.invariant c.loop-node-test.true c.children.ensures.left c.children.ensures.right)
+
+pub offset_bounds-t-n : goal.offset_bounds-t-n
+offset_bounds-t-n c = omega (arith, count_low c.loop-node.invariant c.loop-node-test.true)
 
 pub bounds-t-n : goal.bounds-t-n
-bounds-t-n c = omega (arith, count_low c.loop-i.invariant c.loop-i-test.true)
+bounds-t-n c = omega (arith, count_low c.loop-node.invariant c.loop-node-test.true)
 
-pub overflow_add-t-in-loop-i : goal.overflow_add-t-in-loop-i
-overflow_add-t-in-loop-i c = record { fits = cells_fit c.loop-i.invariant c.loop-i-test.true c.children.ensures.left c.children.ensures.right c.made-e.ensures }
+pub overflow_add-t : goal.overflow_add-t
+overflow_add-t c = record { fits = omega (arith, count_low c.loop-node.invariant c.loop-node-test.true) }
 
-pub overflow_add-t-in-loop-i-2 : goal.overflow_add-t-in-loop-i-2
-overflow_add-t-in-loop-i-2 c = record { fits = pairs_fit c.loop-i.invariant c.loop-i-test.true c.children.ensures.left c.children.ensures.right c.made-e.ensures }
+pub overflow_add-t-in-loop-node : goal.overflow_add-t-in-loop-node
+overflow_add-t-in-loop-node c = record { fits = cells_fit c.loop-node.invariant c.loop-node-test.true c.children.ensures.left c.children.ensures.right c.made-e.ensures }
 
-pub loop-i-preserved : goal.loop-i-preserved
+pub overflow_add-t-in-loop-node-2 : goal.overflow_add-t-in-loop-node-2
+overflow_add-t-in-loop-node-2 c = record { fits = pairs_fit c.loop-node.invariant c.loop-node-test.true c.children.ensures.left c.children.ensures.right c.made-e.ensures }
+
+pub loop-node-preserved : goal.loop-node-preserved
 unfolding with_node
-loop-i-preserved c = turn_growing c.loop-i.invariant c.loop-i-test.true c.children.ensures.left c.children.ensures.right c.made-e.ensures
+loop-node-preserved c = turn_growing c.loop-node.invariant c.loop-node-test.true c.children.ensures.left c.children.ensures.right c.made-e.ensures
 
 pub returns : goal.returns
 returns c =
-    subst (λ (ch : Chains). Tabled c.args.m ch.windows c.loop-i.t) (c.new-ch.ensures c.requires.0.chains_range.1 c.requires.1) (growing_last c.loop-i.invariant c.loop-i-test.false)
+    subst (λ (ch : Chains). Tabled c.args.m ch.windows c.loop-node.t) (c.new-ch.ensures c.requires.0.chains_range.1 c.requires.1) (growing_last c.loop-node.invariant c.loop-node-test.false)
