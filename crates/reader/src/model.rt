@@ -9,6 +9,7 @@ ghost use Rattle.modelfile.proofs.StepLaws.{Within};
 use crate::numbers::{Centre, Chain};
 use modelfile::Model;
 
+#[tactic(auto, unfolding(modelfile::specs::Model::empty_model))]
 pub fn empty_model() -> Model
     ensures { result ≡ empty_model }
 {

@@ -12,20 +12,11 @@ pub loop-node-init : goal.loop-node-init
 loop-node-init c =
     subst (λ ch. Growing c.args.m ch c.empty_table-t.result 0) (sym (c.new-ch.ensures c.requires.0.chains_range.1 c.requires.1)) (growing_first _ c.requires.0 refl c.requires.2 c.totals_of-totals.ensures c.empty_table-t.ensures)
 
-pub children-requires : goal.children-requires
-children-requires c = omega (arith, count_low c.loop-node.invariant c.loop-node-test.true)
-
 pub made-e-requires : goal.made-e-requires
 made-e-requires c = (node_low c.loop-node.invariant c.loop-node-test.true, children_small c.loop-node.invariant c.loop-node-test.true c.children.ensures.left c.children.ensures.right)
 
-pub offset_bounds-t-n : goal.offset_bounds-t-n
-offset_bounds-t-n c = omega (arith, count_low c.loop-node.invariant c.loop-node-test.true)
-
 pub bounds-t-n : goal.bounds-t-n
 bounds-t-n c = omega (arith, count_low c.loop-node.invariant c.loop-node-test.true)
-
-pub overflow_add-t : goal.overflow_add-t
-overflow_add-t c = record { fits = omega (arith, count_low c.loop-node.invariant c.loop-node-test.true) }
 
 pub overflow_add-t-in-loop-node : goal.overflow_add-t-in-loop-node
 overflow_add-t-in-loop-node c = record { fits = cells_fit c.loop-node.invariant c.loop-node-test.true c.children.ensures.left c.children.ensures.right c.made-e.ensures }
