@@ -110,7 +110,11 @@ module _ {m : Model} {centre most c sum : ℕ} (w : Busy m centre most c) (h : c
   pub busy_new : most < sum → Busy m c sum (c + 1)
   busy_new l =
       let e : suc (length (map (load_sum m) (from 1 (c - 1)))) ≡ c = omega (arith, w.low, length-map (from 1 (c - 1)) (load_sum m), length_from 1 (c - 1)) in
-      record { low = omega arith; high = omega arith; best = subst (BestOf c sum) sums_more (subst (λ n. BestOf n sum (map (load_sum m) (from 1 (c - 1)) ++ (sum ∷ []))) e (best_new w.best sum l)) }
+      record {
+        low = omega arith;
+        high = omega arith;
+        best = subst (BestOf c sum) sums_more (subst (λ n. BestOf n sum (map (load_sum m) (from 1 (c - 1)) ++ (sum ∷ []))) e (best_new w.best sum l));
+      }
 
   pub busy_kept : sum ≤ most → Busy m centre most (c + 1)
   busy_kept l = record { low = omega arith; high = omega arith; best = subst (BestOf centre most) sums_more (best_kept w.best sum l) }

@@ -38,7 +38,9 @@ module _ {m : Model} {windows : List ℕ} {t : Table} (p : Prepared m windows t)
   fits = fit m p.guaranteed (windows_in m windows) length_windows (take_low m.chains windows 15 p.windows_low)
 
   -- the chains that the code makes
-  pub chains_made : {ch : Chains} → ((few : m.chains ≤ 8) (low : (k : ℕ) → get_or windows k 0 ≤ 15) → ch ≡ record { count = m.chains; totals = t.totals; windows = windows; chains_few = few; window_range = low }) → chains_of p ≡ ch
+  pub chains_made : {ch : Chains}
+      → ((few : m.chains ≤ 8) (low : (k : ℕ) → get_or windows k 0 ≤ 15)
+      → ch ≡ record { count = m.chains; totals = t.totals; windows = windows; chains_few = few; window_range = low }) → chains_of p ≡ ch
   chains_made e = sym (e p.guaranteed.chains_range.1 p.windows_low)
 
   pub some_cells : 1 ≤ t.cells

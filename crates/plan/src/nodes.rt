@@ -8,7 +8,8 @@ use crate::coverage::{coverage, factor};
 use crate::rows::row;
 use crate::{Chains, Node, Shape};
 
-// Whether the chain at `k`, counted from 0, visits the centre.
+// Whether the chain at `k`, counted from 0, visits the centre. A type for a centre in 1 .. 16 would be no plainer: it would be made from
+// the model's number at each node, where 0 is a join, and taken apart again for the entry.
 #[tactic(auto, unfolding(crate::specs::Steps::loaded_by, network::specs::Centre::visit))]
 pub fn visits(loads: &[u64; 128], centre: usize, k: usize) -> bool
     requires { (1 ≤ centre) × (centre ≤ 16) × (k < 8) }

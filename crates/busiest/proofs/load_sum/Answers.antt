@@ -8,7 +8,9 @@ use Rattle.busiest.proofs.BusiestLaws.{loads_at, sum_low, sum_loads}
 use Rattle.busiest.proofs.load_sum.Goals as goal
 
 pub sum-requires-clause-fits : goal.sum-requires-clause-fits
-sum-requires-clause-fits c = let h : sum (loads_at c.args.m c.requires.0 c.args.centre) < 2 ^ 64 = sum_low c.args.m c.requires.0 c.args.centre in search (rules, chains)
+sum-requires-clause-fits c =
+    let h : sum (loads_at c.args.m c.requires.0 c.args.centre) < 2 ^ 64 = sum_low c.args.m c.requires.0 c.args.centre in
+    search (rules, chains)
 
 pub returns : goal.returns
 returns c =
