@@ -1,26 +1,26 @@
 -- The busiest centre. The running best over a list of sums is the number of the first of the largest: one more sum is either not above
 -- it, and leaves it, or is above every sum before it, and is the new best.
-use Prim.Native.Nat.{ℕ, suc, ◌+◌, ◌-◌, ◌*◌, ◌≤◌, ◌<◌, max}
+use Prim.Native.Nat.{ℕ, suc, ◌+◌, ◌-◌, ◌*◌, ◌^◌, ◌≤◌, ◌<◌, max}
 use mathlib.Core.Path.{◌≡◌, refl, sym, ap, subst, ◌∙◌}
 use mathlib.Core.Bool.{Bool, true, false}
 use mathlib.Core.List.{List, [], ◌∷◌, ◌++◌, map}
 use native.Mathlib.Omega.{arith}
-use native.Mathlib.Numerals.{add-one}
 use lib.Dec.{ltb, eqb}
-use lib.ListN.{length, get_or, take, drop, length-map, length-drop}
-use lib.Seq.{take-suc, get_or-drop}
+use lib.ListN.{length, get_or, take, drop, length-map}
+use lib.Seq.{get_or-drop}
 use borrow.Author.Tests.{eq-eqb, ne_eqb, eqb-false, ltb-true, ltb-false}
+use Rattle.std.specs.Prelude.{sum}
+use Rattle.std.proofs.lemmas.List.{length-take}
+use Rattle.std.proofs.lemmas.List.Sums.{sum_by-cons}
+use Rattle.calls.proofs.FileLaws.{take_low}
 use Rattle.sums.specs.Choice.{choose}
 use Rattle.sums.specs.Lists.{from}
 use Rattle.sums.specs.Sums.{sum_over}
 use Rattle.sums.proofs.ListLaws.{map-append, length_from, from_more}
-use Rattle.sums.proofs.SumLaws.{sum_over-append}
 use Rattle.modelfile.specs.Network.{loads_of}
 use Rattle.modelfile.specs.declared.Model.{Model}
 use Rattle.modelfile.proofs.Guaranteed.{Guaranteed}
 use Rattle.calls.specs.Sheet.{load_sum, largest, first_with, busiest}
-use Rattle.busiest.specs.Steps.{better}
-use Rattle.busiest.specs.declared.Best.{Best}
 
 -- ---- the first of the largest
 
@@ -72,86 +72,82 @@ first_kept (y ∷ ys) x h = first_in (largest (y ∷ ys)) (y ∷ ys) (x ∷ []) 
 
 -- ---- the running best
 
-pub record BestOf (b : Best) (sums : List ℕ) : Type 0 where
-  pub most_is : b.most ≡ largest sums
-  pub centre_is : b.centre ≡ first_with (largest sums) sums
+pub record BestOf (centre most : ℕ) (sums : List ℕ) : Type 0 where
+  pub most_is : most ≡ largest sums
+  pub centre_is : centre ≡ first_with (largest sums) sums
 
-best_none : BestOf (record { centre = 1; most = 0 }) []
-unfolding largest first_with
-best_none = record { most_is = refl; centre_is = refl }
+module _ {centre most : ℕ} {sums : List ℕ} (w : BestOf centre most sums) (sum : ℕ) where
+  best_new : most < sum → BestOf (suc (length sums)) sum (sums ++ (sum ∷ []))
+  best_new h =
+      let l : largest sums < sum = omega (arith, w.most_is) in
+      let m : largest (sums ++ (sum ∷ [])) ≡ sum = omega (arith, largest_more sums sum) in
+      record { most_is = sym m; centre_is = sym (first_new sum sums l) ∙ ap (λ x. first_with x (sums ++ (sum ∷ []))) (sym m) }
 
-best_more : (b : Best) (sums : List ℕ) (centre sum : ℕ) → BestOf b sums → centre ≡ suc (length sums) → BestOf (better b centre sum) (sums ++ (sum ∷ []))
-unfolding better
-best_more b sums centre sum w n = by (ltb b.most sum) refl
-  where
-    by : (t : Bool) → ltb b.most sum ≡ t → BestOf (choose t (λ u. record { centre = centre; most = sum }) (λ u. b)) (sums ++ (sum ∷ []))
-    by true e =
-        let h : largest sums < sum = omega (arith, ltb-true b.most sum e, w.most_is) in
-        let m : largest (sums ++ (sum ∷ [])) ≡ sum = omega (arith, largest_more sums sum) in
-        record { most_is = sym m; centre_is = n ∙ sym (first_new sum sums h) ∙ ap (λ x. first_with x (sums ++ (sum ∷ []))) (sym m) }
-    by false e =
-        let h : sum ≤ largest sums = omega (arith, ltb-false b.most sum e, w.most_is) in
-        let m : largest (sums ++ (sum ∷ [])) ≡ largest sums = omega (arith, largest_more sums sum) in
-        record { most_is = w.most_is ∙ sym m; centre_is = w.centre_is ∙ sym (first_kept sums sum h) ∙ ap (λ x. first_with x (sums ++ (sum ∷ []))) (sym m) }
+  best_kept : sum ≤ most → BestOf centre most (sums ++ (sum ∷ []))
+  best_kept h =
+      let l : sum ≤ largest sums = omega (arith, w.most_is) in
+      let m : largest (sums ++ (sum ∷ [])) ≡ largest sums = omega (arith, largest_more sums sum) in
+      record { most_is = w.most_is ∙ sym m; centre_is = w.centre_is ∙ sym (first_kept sums sum l) ∙ ap (λ x. first_with x (sums ++ (sum ∷ []))) (sym m) }
 
 -- the loop over centres: those before c are done
-pub record Busy (m : Model) (b : Best) (c : ℕ) : Type 0 where
+pub record Busy (m : Model) (centre most c : ℕ) : Type 0 where
   pub low : 1 ≤ c
   pub high : c ≤ m.centres + 1
-  pub best : BestOf b (map (load_sum m) (from 1 (c - 1)))
+  pub best : BestOf centre most (map (load_sum m) (from 1 (c - 1)))
 
-module _ (m : Model) where
-  pub busy_first : Busy m (record { centre = 1; most = 0 }) 1
-  unfolding from
-  busy_first = record { low = omega arith; high = omega arith; best = best_none }
+pub busy_first : (m : Model) → Busy m 1 0 1
+unfolding from largest first_with
+busy_first m = record { low = omega arith; high = omega arith; best = record { most_is = refl; centre_is = refl } }
 
-  pub busy_turn : {b r : Best} {c sum : ℕ} → Busy m b c → c ≤ m.centres → sum ≡ load_sum m c → r ≡ better b c sum → Busy m r (c + 1)
-  busy_turn {b} {r} {c} {sum} w h s e =
-      let sums = map (load_sum m) (from 1 (c - 1)) in
+module _ {m : Model} {centre most c sum : ℕ} (w : Busy m centre most c) (h : c ≤ m.centres) (s : sum ≡ load_sum m c) where
+  sums_more : map (load_sum m) (from 1 (c - 1)) ++ (sum ∷ []) ≡ map (load_sum m) (from 1 ((c + 1) - 1))
+  sums_more =
       let d : (c + 1) - 1 ≡ suc (c - 1) = omega (arith, w.low) in
       let o : 1 + (c - 1) ≡ c = omega (arith, w.low) in
-      let l : c ≡ suc (length sums) = omega (arith, w.low, length-map (from 1 (c - 1)) (load_sum m), length_from 1 (c - 1)) in
-      let x : map (load_sum m) (from 1 ((c + 1) - 1)) ≡ sums ++ (sum ∷ []) =
-      ap (λ n. map (load_sum m) (from 1 n)) d ∙ ap (map (load_sum m)) (from_more 1 (c - 1)) ∙ map-append (load_sum m) (from 1 (c - 1)) ((1 + (c - 1)) ∷ [])
-      ∙ ap (λ n. sums ++ (load_sum m n ∷ [])) o ∙ ap (λ n. sums ++ (n ∷ [])) (sym s) in
+      ap (λ n. map (load_sum m) (from 1 (c - 1)) ++ (n ∷ [])) (s ∙ ap (load_sum m) (sym o))
+      ∙ sym (ap (λ n. map (load_sum m) (from 1 n)) d ∙ ap (map (load_sum m)) (from_more 1 (c - 1)) ∙ map-append (load_sum m) (from 1 (c - 1)) ((1 + (c - 1)) ∷ []))
+
+  pub busy_new : most < sum → Busy m c sum (c + 1)
+  busy_new l =
+      let e : suc (length (map (load_sum m) (from 1 (c - 1)))) ≡ c = omega (arith, w.low, length-map (from 1 (c - 1)) (load_sum m), length_from 1 (c - 1)) in
       record {
         low = omega arith;
         high = omega arith;
-        best = subst (λ q. BestOf q (map (load_sum m) (from 1 ((c + 1) - 1)))) (sym e) (subst (BestOf (better b c sum)) (sym x) (best_more b sums c sum w.best l));
+        best = subst (BestOf c sum) sums_more (subst (λ n. BestOf n sum (map (load_sum m) (from 1 (c - 1)) ++ (sum ∷ []))) e (best_new w.best sum l));
       }
 
-  pub busy_last : {b : Best} {c : ℕ} → Busy m b c → m.centres < c → b.centre ≡ busiest m
-  unfolding busiest
-  busy_last {b} {c} w h =
-      let d : c - 1 ≡ m.centres = omega (arith, w.low, w.high) in
-      w.best.centre_is ∙ ap (λ n. first_with (largest (map (load_sum m) (from 1 n))) (map (load_sum m) (from 1 n))) d
+  pub busy_kept : sum ≤ most → Busy m centre most (c + 1)
+  busy_kept l = record { low = omega arith; high = omega arith; best = subst (BestOf centre most) sums_more (best_kept w.best sum l) }
 
--- ---- a centre's sum of loads: those of the first k chains are added
+pub busy_last : {m : Model} {centre most c : ℕ} → Busy m centre most c → m.centres < c → centre ≡ busiest m
+unfolding busiest
+busy_last {m} {c = c} w h =
+    let d : c - 1 ≡ m.centres = omega (arith, w.low, w.high) in
+    w.best.centre_is ∙ ap (λ n. first_with (largest (map (load_sum m) (from 1 n))) (map (load_sum m) (from 1 n))) d
 
-pub record Summed (m : Model) (centre sum k : ℕ) : Type 0 where
-  pub few : k ≤ m.chains
-  pub sum_is : sum ≡ sum_over (take k (drop ((centre - 1) * 8) m.loads)) (λ load. load)
-  pub low : sum ≤ 65535 * k
+-- ---- a centre's sum of loads: of at most eight loads, each at most 65535
+
+sum_is : (xs : List ℕ) → sum xs ≡ sum_over xs (λ load. load)
+unfolding sum_over
+sum_is [] = refl
+sum_is (x ∷ xs) = sum_by-cons (λ n. n) x xs ∙ ap (λ n. x + n) (sum_is xs)
+
+sum_few : (xs : List ℕ) → ((i : ℕ) → get_or xs i 0 ≤ 65535) → sum xs ≤ 65535 * length xs
+sum_few [] h = omega arith
+sum_few (x ∷ xs) h = omega (arith, sum_by-cons (λ n. n) x xs, h 0, sum_few xs (λ i. h (suc i)))
 
 module _ (m : Model) (g : Guaranteed m) (centre : ℕ) where
-  pub summed_first : Summed m centre 0 0
-  unfolding sum_over
-  summed_first = record { few = omega arith; sum_is = refl; low = omega arith }
+  -- as the code takes them out
+  abbrev pub loads_at : List ℕ
+  loads_at = take ((centre - 1) * 8 + m.chains - (centre - 1) * 8) (drop ((centre - 1) * 8) m.loads)
 
-  pub summed_turn : {sum k : ℕ} → Summed m centre sum k → k < m.chains → 1 ≤ centre → centre ≤ m.centres → Summed m centre (sum + get_or m.loads ((centre - 1) * 8 + k) 0) (k + 1)
-  unfolding sum_over
-  summed_turn {sum} {k} w h a b =
-      let rest = drop ((centre - 1) * 8) m.loads in
-      let l : k < length rest = omega (arith, length-drop ((centre - 1) * 8) m.loads, g.loads_long, g.chains_range, g.centres_range) in
-      record {
-        few = omega arith;
-        sum_is = ap (λ n. sum + n) (sym (get_or-drop ((centre - 1) * 8) m.loads k 0)) ∙ last rest k l w.sum_is;
-        low = omega (arith, w.low, g.load_range ((centre - 1) * 8 + k));
-      }
-    where
-      last : (rest : List ℕ) (k : ℕ) → k < length rest → sum ≡ sum_over (take k rest) (λ load. load) → sum + get_or rest k 0 ≡ sum_over (take (k + 1) rest) (λ load. load)
-      last rest k l e = rw (add-one k, take-suc rest k 0 l, sum_over-append (take k rest) (get_or rest k 0 ∷ []) (λ load. load)) (omega (arith, e))
+  pub sum_low : sum loads_at < 2 ^ 64
+  sum_low =
+      let low : (i : ℕ) → get_or loads_at i 0 ≤ 65535 = take_low _ _ 65535 (λ i. omega (arith, get_or-drop ((centre - 1) * 8) m.loads i 0, g.load_range ((centre - 1) * 8 + i))) in
+      omega (arith, sum_few loads_at low, length-take ((centre - 1) * 8 + m.chains - (centre - 1) * 8) (drop ((centre - 1) * 8) m.loads), g.chains_range)
 
-  pub summed_last : {sum k : ℕ} → Summed m centre sum k → m.chains ≤ k → sum ≡ load_sum m centre
+  pub sum_loads : sum loads_at ≡ load_sum m centre
   unfolding load_sum loads_of
-  summed_last {sum} {k} w h = let e : k ≡ m.chains = omega (arith, w.few) in w.sum_is ∙ ap (λ n. sum_over (take n (drop ((centre - 1) * 8) m.loads)) (λ load. load)) e
+  sum_loads =
+      let e : (centre - 1) * 8 + m.chains - (centre - 1) * 8 ≡ m.chains = omega arith in
+      sum_is loads_at ∙ ap (λ n. sum_over (take n (drop ((centre - 1) * 8) m.loads)) (λ load. load)) e

@@ -39,7 +39,7 @@ pub record Found (loads : List ℕ) (ch : Chains) (n : Node) (found : List Reach
 
 module _ {loads : List ℕ} {ch : Chains} {n : Node} (leaf : LeafIn loads ch n) where
   pub loads_room : (n.centre - 1) * 8 + ch.count ≤ 128
-  loads_room = omega (arith, leaf.centre_range.0, leaf.centre_range.1, leaf.few.chains_few)
+  loads_room = omega (arith, leaf.centre_range.0, leaf.centre_range.1, ch.chains_few)
 
   pub loads-length : length (loads_in loads ch n) ≡ ch.count
   loads-length = length-take-le ch.count (drop ((n.centre - 1) * 8) loads) (omega (arith, length-drop ((n.centre - 1) * 8) loads, leaf.loads_long, loads_room))
@@ -52,7 +52,7 @@ module _ {loads : List ℕ} {ch : Chains} {n : Node} (leaf : LeafIn loads ch n) 
       → covering c ≡ coverage_by_count (get_or n.counts k 0) (get_or ch.totals k 0)
       → r ≡ reach_by (get_or loads ((n.centre - 1) * 8 + k) 0) (span (covering c) (get_or ch.windows k 0)) → Found loads ch n (set found k r) (k + 1)
   found_turn {found} {k} {r} c f h ec er =
-      let l : k < length found = omega (arith, f.room, leaf.few.chains_few) in
+      let l : k < length found = omega (arith, f.room, ch.chains_few) in
       let e : r ≡ reach_at loads ch n k = er ∙ ap (λ s. reach_by (get_or loads ((n.centre - 1) * 8 + k) 0) (span s (get_or ch.windows k 0))) ec in
       record {
         room = length-set found k r ∙ f.room;

@@ -30,7 +30,7 @@ use Rattle.plan.proofs.RowLaws.{take_is}
 use Rattle.plan.proofs.EntryLaws.{spans_are}
 use Rattle.plan.proofs.EntriesLaws.{entry_of}
 use Rattle.plan.proofs.ModelLaws.{centre_at_lem, route_at}
-use Rattle.plan.proofs.PreparedLaws.{tree_nodes, length_windows, few, parted_all, centre_range, count_few, nodes_are, length_nodes, entry_at}
+use Rattle.plan.proofs.PreparedLaws.{tree_nodes, length_windows, parted_all, centre_range, count_few, nodes_are, length_nodes, entry_at}
 use Rattle.fills.specs.Nodes.{leaf_cells, cells_by, node_cells, LeafIn, NodeIn}
 
 module _ (m : Model) (windows : List ℕ) (t : Table) (p : Prepared m windows t) where
@@ -41,7 +41,7 @@ module _ (m : Model) (windows : List ℕ) (t : Table) (p : Prepared m windows t)
   routes = routes_in m
 
   abbrev ch : Chains
-  ch = chains_of m windows t
+  ch = chains_of p
 
   abbrev nodes : List (Tree × ℕ)
   nodes = tree_nodes m windows
@@ -61,7 +61,6 @@ module _ (m : Model) (windows : List ℕ) (t : Table) (p : Prepared m windows t)
     leaf_in : (start : ℕ) → LeafIn m.loads ch (entry routes ws (leaf c) start)
     unfolding entry centre_at loads_of
     leaf_in start = record {
-      few = few p;
       centre_range = (in_range.0, omega (arith, in_range, p.guaranteed.centres_range));
       loads_long = p.guaranteed.loads_long;
       ends = rw (spans_at_lem (leaf c) rest parted) (leaf_ends routes ws (loads_of m c) c (omega (arith, length_windows p, p.guaranteed.chains_range))

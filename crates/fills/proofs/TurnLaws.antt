@@ -45,10 +45,8 @@ module _ (loads : List ℕ) (ch : Chains) (t : Table) where
   pub written_first : (old : List ℕ) → Written old old 0
   written_first old = record { low = omega arith; filled = filled_first (node_cells loads ch) t.nodes no_node old; long = refl }
 
-module _ (m : Model) (windows : List ℕ) (t : Table) (p : Prepared m windows t) where
-  abbrev ch : Chains
-  ch = chains_of m windows t
-
+-- ch: the run's chains as the code makes them
+module _ (m : Model) (windows : List ℕ) (t : Table) (p : Prepared m windows t) {ch : Chains} (made : chains_of p ≡ ch) where
   abbrev cells_of : Node → List ℕ
   cells_of = node_cells m.loads ch
 
@@ -59,10 +57,19 @@ module _ (m : Model) (windows : List ℕ) (t : Table) (p : Prepared m windows t)
   unfolding filled
   length_whole = length-spread (routes_in m) (windows_in m windows) (start_cell (centres_of m)) (tree_of m)
 
+  filled_here : first_cells m.loads ch t t.count ≡ whole
+  filled_here = subst (λ ch. first_cells m.loads ch t t.count ≡ whole) made (filled_is m windows t p)
+
+  base_here : (i : ℕ) → i < t.count → (node_at t i).base ≡ length (first_cells m.loads ch t i)
+  base_here i h = subst (λ ch. (node_at t i).base ≡ length (first_cells m.loads ch t i)) made (node_base m windows t p i h)
+
+  pub ready_here : (i : ℕ) → i < t.count → NodeIn m.loads ch (node_at t i)
+  ready_here i h = subst (λ ch. NodeIn m.loads ch (node_at t i)) made (node_ready m windows t p i h)
+
   pub written_last : {old now : List ℕ} {i : ℕ} → Written m.loads ch t old now i → t.count ≤ i → now ≡ whole ++ drop (cells_in m (windows_in m windows)) old
   written_last {old} {now} {i} w h =
       let e : i ≡ t.count = omega (arith, w.low) in
-      let f = ap (first_cells m.loads ch t) e ∙ filled_is m windows t p in
+      let f = ap (first_cells m.loads ch t) e ∙ filled_here in
       w.filled.is ∙ ap (λ l. l ++ drop (length l) old) f ∙ ap (λ n. whole ++ drop n old) length_whole
 
   -- the nodes passed over: the first n
@@ -83,7 +90,7 @@ module _ (m : Model) (windows : List ℕ) (t : Table) (p : Prepared m windows t)
   item_ready {x} {k} h e =
       let l = among_first h (le_refl t.count) in
       let d : x ≡ node_at t k = e ∙ get_or_default (take t.count t.nodes) k x no_node h ∙ first_at h (le_refl t.count) in
-      subst (NodeIn m.loads ch) (sym d) (node_ready m windows t p k l)
+      subst (NodeIn m.loads ch) (sym d) (ready_here k l)
 
   -- the nodes passed over, and what the question asks of each
   abbrev passed : List Node
@@ -107,15 +114,15 @@ module _ (m : Model) (windows : List ℕ) (t : Table) (p : Prepared m windows t)
   any_is true r =
       let h = among_first r.1 (le_refl t.count) in
       let e : some too_large (cells_of (node_at t r.0)) ≡ true = rw (first_at r.1 (le_refl t.count)) at (r.2 no_node) in
-      sym (ap (some too_large) (sym (filled_is m windows t p)) ∙ some_found cells_of t.nodes no_node too_large t.count r.0 (count_low m windows t p) h e)
-  any_is false h = sym (ap (some too_large) (sym (filled_is m windows t p)) ∙ none_in t.count (le_refl t.count) h)
+      sym (ap (some too_large) (sym (filled_here)) ∙ some_found cells_of t.nodes no_node too_large t.count r.0 (count_low m windows t p) h e)
+  any_is false h = sym (ap (some too_large) (sym (filled_here)) ∙ none_in t.count (le_refl t.count) h)
 
   module _ {i : ℕ} (h : i < t.count) where
     pub inside : i < length t.nodes
     inside = omega (arith, count_low m windows t p)
 
     pub next_low : some too_large whole ≡ false → some too_large (cells_of (node_at t i)) ≡ false
-    next_low e = none_at cells_of t.nodes no_node too_large t.count i (count_low m windows t p) h (ap (some too_large) (filled_is m windows t p) ∙ e)
+    next_low e = none_at cells_of t.nodes no_node too_large t.count i (count_low m windows t p) h (ap (some too_large) (filled_here) ∙ e)
 
     module _ {old now : List ℕ} (w : Written m.loads ch t old now i) (room : cells_in m (windows_in m windows) ≤ length old) where
       pub next_room : (node_at t i).base + (node_at t i).cells ≤ length now
@@ -125,7 +132,7 @@ module _ (m : Model) (windows : List ℕ) (t : Table) (p : Prepared m windows t)
           → Written m.loads ch t old next (i + 1)
       written_turn e l = record {
         low = omega arith;
-        filled = filled_turn cells_of t.nodes no_node inside (node_base m windows t p i h) w.filled e;
+        filled = filled_turn cells_of t.nodes no_node inside (base_here i h) w.filled e;
         long =
             l ∙ w.long;
       }

@@ -4,7 +4,7 @@ use Rattle.network.specs.Cells.{Span, span, cells, indices}
 use Rattle.network.specs.Weight.{weight}
 use Rattle.network.proofs.CoverageLaws.{coverage_by_count}
 use Rattle.weights.specs.Leaf.{reaches, LeafEnds}
-use Rattle.plan.specs.Steps.{Few, spans_by}
+use Rattle.plan.specs.Steps.{spans_by}
 use Rattle.plan.specs.declared.Chains.{Chains}
 use Rattle.plan.specs.declared.Node.{Node}
 
@@ -36,7 +36,6 @@ put at cells area = take at area ++ (cells ++ drop (at + length cells) area)
 
 -- a leaf whose cells can be written
 pub record LeafIn (loads : List ℕ) (ch : Chains) (n : Node) : Type 0 where
-  pub few : Few ch
   pub centre_range : (1 ≤ n.centre) × (n.centre ≤ 16)
   pub loads_long : length loads ≡ 128
   pub ends : LeafEnds (reaches (loads_in loads ch n) (spans_in ch n))

@@ -9,12 +9,11 @@ ghost use Rattle.sums.specs.Lists.{some};
 ghost use Rattle.calls.specs.Asked.{cells_in, filled_by};
 ghost use Rattle.calls.specs.Start.{too_large};
 ghost use Rattle.plan.specs.Table.{windows_in};
-ghost use Rattle.plan.specs.Asking.{Prepared};
+ghost use Rattle.plan.specs.Asking.{Ready};
 ghost use Rattle.fills.specs.Nodes.{node_cells, put, NodeIn};
 
 use crate::leaves::{leaf_too_large, write_leaf};
-use modelfile::Model;
-use plan::{Chains, Node, Table};
+use plan::{Chains, Node, Run};
 
 pub fn clear(part: &mut [u64])
     ensures { part.new ≡ replicate (length part.old) 0 }
@@ -44,32 +43,26 @@ fn write_node(loads: &[u64], ch: &Chains, n: &Node, area: &mut [u64])
     }
 }
 
-pub fn some_leaf_too_large(m: Model, windows: [usize; 8], t: Table) -> bool
-    requires { Prepared m windows t }
-    ensures { result ≡ some too_large (filled_by m (windows_in m windows)) }
+pub fn some_leaf_too_large(run: &Run) -> bool
+    requires { Ready run.now }
+    ensures { result ≡ some too_large (filled_by run.now.model (windows_in run.now.model run.now.windows)) }
 {
-    let ch = Chains {
-        count: m.chains,
-        totals: t.totals,
-        windows,
-    };
-    let nodes = &t.nodes[..t.count];
-    nodes.iter().any(|n| node_too_large(&m.loads, &ch, n))
+    let ch = run.chains();
+    let nodes = &run.table.nodes[..run.table.count];
+    nodes
+        .iter()
+        .any(|n| node_too_large(&run.model.loads, &ch, n))
 }
 
 // The cells past the model's stay as they are.
-pub fn fill(m: Model, windows: [usize; 8], t: Table, area: &mut [u64])
-    requires prepared { Prepared m windows t }
-    requires room { cells_in m (windows_in m windows) ≤ length area.old }
-    requires none_large { some too_large (filled_by m (windows_in m windows)) ≡ false }
-    ensures { area.new ≡ filled_by m (windows_in m windows) ++ drop (cells_in m (windows_in m windows)) area.old }
+pub fn fill(run: &Run, area: &mut [u64])
+    requires ready { Ready run.now }
+    requires room { cells_in run.now.model (windows_in run.now.model run.now.windows) ≤ length area.old }
+    requires none_large { some too_large (filled_by run.now.model (windows_in run.now.model run.now.windows)) ≡ false }
+    ensures { area.new ≡ filled_by run.now.model (windows_in run.now.model run.now.windows) ++ drop (cells_in run.now.model (windows_in run.now.model run.now.windows)) area.old }
 {
-    let ch = Chains {
-        count: m.chains,
-        totals: t.totals,
-        windows,
-    };
-    for n in &t.nodes[..t.count] {
-        write_node(&m.loads, &ch, n, area);
+    let ch = run.chains();
+    for n in &run.table.nodes[..run.table.count] {
+        write_node(&run.model.loads, &ch, n, area);
     }
 }

@@ -22,11 +22,11 @@ use Rattle.modelfile.proofs.TreeLaws.{all_under}
 use Rattle.modelfile.proofs.Guaranteed.{Guaranteed}
 use Rattle.calls.proofs.FileLaws.{length_routes}
 use Rattle.plan.specs.Table.{row, counts_at, totals_of, pairs_at, entry, entries, windows_in, routes_in, Tabled}
-use Rattle.plan.specs.Steps.{Few, Small, count_by, no_node, right_of, left_of, shape_by, pairs_by, node_leaf, node_joined, node_by, node_made, with_node, empty_table, Ready}
+use Rattle.plan.specs.Steps.{Small, count_by, no_node, right_of, left_of, shape_by, pairs_by, node_leaf, node_joined, node_by, node_made, with_node, empty_table, Ready}
 use Rattle.plan.specs.declared.Chains.{Chains}
 use Rattle.plan.specs.declared.Node.{Node}
 use Rattle.plan.specs.declared.Table.{Table}
-use Rattle.plan.proofs.RowLaws.{length-row, row_few, take_is}
+use Rattle.plan.proofs.RowLaws.{row_few, take_is}
 use Rattle.plan.proofs.ThoseLaws.{those_few}
 use Rattle.plan.proofs.FewLaws.{cells_few, factors_few}
 use Rattle.plan.proofs.StackLaws.{Next, nodes_of, leaves_in, nodes_under, stack, parted_stack, stack_count, next}
@@ -36,15 +36,15 @@ use Rattle.plan.proofs.ModelLaws.{loads_agree, tree_count}
 
 -- ---- the code's numbers stay small
 
-module _ (ch : Chains) (few : Few ch) (loads : List ℕ) (t : Table) where
+module _ (ch : Chains) (loads : List ℕ) (t : Table) where
   made_cells : (x : ℕ) → (node_made ch loads t x).cells ≤ 2 ^ 32
   unfolding node_made node_by node_leaf node_joined shape_by
-  made_cells zero = cells_few ch.windows few.window_range ch.totals _ 0 ch.count few.chains_few
-  made_cells (suc c) = cells_few ch.windows few.window_range ch.totals _ 0 ch.count few.chains_few
+  made_cells zero = cells_few ch.windows ch.window_range ch.totals _ 0 ch.count ch.chains_few
+  made_cells (suc c) = cells_few ch.windows ch.window_range ch.totals _ 0 ch.count ch.chains_few
 
   made_pairs : (x : ℕ) → (node_made ch loads t x).pairs ≤ 136 ^ 8
   unfolding node_made node_by node_leaf node_joined pairs_by
-  made_pairs zero = factors_few ch.windows few.window_range ch.totals _ _ _ 0 ch.count few.chains_few
+  made_pairs zero = factors_few ch.windows ch.window_range ch.totals _ _ _ 0 ch.count ch.chains_few
   made_pairs (suc c) = omega arith
 
 -- ---- one node more
@@ -105,18 +105,18 @@ module _ (m : Model) (g : Guaranteed m) (windows : List ℕ) (long : length wind
     unfolding nodes_of
     children_some = omega (arith, s.count_is, nodes_under l)
 
-    children_right : right_of t ≡ entry (routes_in m) (windows_in m windows) r (forest_cells (routes_in m) (windows_in m windows) (l ∷ S))
+    children_right : right_of t t.count ≡ entry (routes_in m) (windows_in m windows) r (forest_cells (routes_in m) (windows_in m windows) (l ∷ S))
     unfolding right_of
     children_right =
         sym (get_or-take t.count t.nodes (t.count - 1) no_node (omega (arith, children_some)))
         ∙ ap (λ es. get_or es (t.count - 1) no_node) s.nodes_are
         ∙ right_found (routes_in m) (windows_in m windows) l r S t.count s.count_is
 
-    right_span : (right_of t).span ≡ nodes_in r
+    right_span : (right_of t t.count).span ≡ nodes_in r
     unfolding entry
     right_span = ap (λ (e : Node). e.span) children_right
 
-    children_left : left_of t ≡ entry (routes_in m) (windows_in m windows) l (forest_cells (routes_in m) (windows_in m windows) S)
+    children_left : left_of t t.count ≡ entry (routes_in m) (windows_in m windows) l (forest_cells (routes_in m) (windows_in m windows) S)
     unfolding left_of
     children_left =
         ap (λ n. get_or t.nodes (t.count - 1 - n) no_node) right_span
@@ -240,83 +240,62 @@ module _ (m : Model) (g : Guaranteed m) (windows : List ℕ) (long : length wind
 -- what each turn has: the model, its chains, and the table so far
 pub record Growing (m : Model) (ch : Chains) (t : Table) (i : ℕ) : Type 0 where
   pub model : Guaranteed m
-  pub few : Few ch
+  pub windows_long : length ch.windows ≡ 8
   pub chains_are : ch.count ≡ m.chains
   pub totals_are : ch.totals ≡ t.totals
   pub grown : Grown m ch.windows t i
 
-pub growing_first : (m : Model) → Guaranteed m → (windows : List ℕ) → ((k : ℕ) → get_or windows k 0 ≤ 15) → length windows ≡ 8 → (totals : List ℕ) → totals ≡ row m.chains (λ k. count_by m.loads k (from 1 m.centres))
-    → (t : Table) → t ≡ empty_table totals → Growing m (record { count = m.chains; totals = totals; windows = windows }) t 0
+pub growing_first : {m : Model} (ch : Chains) → Guaranteed m → ch.count ≡ m.chains → length ch.windows ≡ 8 → ch.totals ≡ row m.chains (λ k. count_by m.loads k (from 1 m.centres))
+    → {t : Table} → t ≡ empty_table ch.totals → Growing m ch t 0
 unfolding empty_table
-growing_first m g windows small long totals e t et =
-    rw et
-    (record {
-      model = g;
-      few =
-          record {
-            chains_few = g.chains_range.1;
-            totals_long = ap length e ∙ length-row (λ k. count_by m.loads k (from 1 m.centres)) m.chains g.chains_range.1;
-            windows_long = long;
-            window_range = small;
-          };
-      chains_are = refl;
-      totals_are = refl;
-      grown = grown_first m g windows long totals e;
-    })
+growing_first {m} ch g count long e et =
+    rw et (record { model = g; windows_long = long; chains_are = count; totals_are = refl; grown = grown_first m g ch.windows long ch.totals e })
 
-pub growing_last : {m : Model} {ch : Chains} {t : Table} {i : ℕ} → Growing m ch t i → m.count ≤ i → Tabled m ch.windows t
-growing_last {m} {ch} {t} {i} w h = grown_last m w.model ch.windows w.few.windows_long t i w.grown h
+pub growing_last : {m : Model} {ch : Chains} {t : Table} {i : ℕ} → Growing m ch t i → length (nodes_given m) ≤ i → Tabled m ch.windows t
+growing_last {m} {ch} {t} {i} w h = grown_last m w.model ch.windows w.windows_long t i w.grown (omega (arith, given_count m w.model ch.windows w.windows_long))
 
-module _ {m : Model} {ch : Chains} {t : Table} {i : ℕ} (w : Growing m ch t i) (h : i < m.count) where
+module _ {m : Model} {ch : Chains} {t : Table} {i : ℕ} (w : Growing m ch t i) (h : i < length (nodes_given m)) where
+  low : i < m.count
+  low = omega (arith, given_count m w.model ch.windows w.windows_long)
+
   count_same : t.count ≡ i
-  count_same = w.grown.standing.count_is ∙ stack_count (nodes_given m) (tree_of m) w.model.one_tree (tree_count m w.model) i (omega (arith, given_count m w.model ch.windows w.few.windows_long))
+  count_same = w.grown.standing.count_is ∙ stack_count (nodes_given m) (tree_of m) w.model.one_tree (tree_count m w.model) i (omega (arith, given_count m w.model ch.windows w.windows_long))
 
   pub count_low : t.count < 31
-  count_low = omega (arith, count_same, w.model.count_range)
+  count_low = omega (arith, count_same, low, w.model.count_range)
 
-  turn : Follows m ch.windows t (get_or m.nodes i 0) (node_made ch m.loads t (get_or m.nodes i 0)) (stack (nodes_given m) i) (stack (nodes_given m) (suc i))
+  turn : Follows m ch.windows t (get_or (nodes_given m) i 0) (node_made ch m.loads t (get_or (nodes_given m) i 0)) (stack (nodes_given m) i) (stack (nodes_given m) (suc i))
   turn =
       let g = w.model in
-      let long = w.few.windows_long in
-      let n : i < length (nodes_given m) = omega (arith, given_count m g ch.windows long) in
-      subst (λ x. Follows m ch.windows t x (node_made ch m.loads t x) (stack (nodes_given m) i) (stack (nodes_given m) (suc i))) (get_or-take m.count m.nodes i 0 h)
-      (follows m g ch.windows long ch w.chains_are refl (w.totals_are ∙ w.grown.standing.totals_are) t (leaves_in (drop (suc i) (nodes_given m)))
-      (next (nodes_given m) (tree_of m) g.one_tree (tree_count m g) i n)
+      follows m g ch.windows w.windows_long ch w.chains_are refl (w.totals_are ∙ w.grown.standing.totals_are) t (leaves_in (drop (suc i) (nodes_given m)))
+      (next (nodes_given m) (tree_of m) g.one_tree (tree_count m g) i h)
       w.grown.standing
-      (parted_stack (nodes_given m) (tree_of m) g.one_tree (tree_count m g) (suc i)))
+      (parted_stack (nodes_given m) (tree_of m) g.one_tree (tree_count m g) (suc i))
 
-  pub node_low : get_or m.nodes i 0 ≤ 16
+  pub node_low : get_or (nodes_given m) i 0 ≤ 16
   node_low = turn.ready.leaf_range
 
-  -- the two entries that the code takes out are those a join's children have
-  module _ (r l : ℕ) (er : r ≡ t.count - 1) (el : l ≡ r - (get_or t.nodes r no_node).span) where
-    found_right : get_or t.nodes r no_node ≡ right_of t
-    unfolding right_of
-    found_right = ap (λ n. get_or t.nodes n no_node) er
+  -- by the two children that the code takes out
+  module _ {l r : Node} (el : l ≡ left_of t t.count) (er : r ≡ right_of t t.count) where
+    pub children_small : get_or (nodes_given m) i 0 ≡ 0 → Small l × Small r
+    children_small z = (subst Small (sym el) (turn.ready.left_small z), subst Small (sym er) (turn.ready.right_small z))
 
-    found_left : get_or t.nodes l no_node ≡ left_of t
-    unfolding left_of
-    found_left = ap (λ n. get_or t.nodes n no_node) (el ∙ (λ j. er j - (found_right j).span))
-
-    pub children_small : get_or m.nodes i 0 ≡ 0 → Small (get_or t.nodes l no_node) × Small (get_or t.nodes r no_node)
-    children_small z = (subst Small (sym found_left) (turn.ready.left_small z), subst Small (sym found_right) (turn.ready.right_small z))
-
-    module _ (e : Node) (ee : e ≡ node_by ch m.loads (get_or t.nodes l no_node) (get_or t.nodes r no_node) t.cells (get_or m.nodes i 0)) where
-      made : e ≡ node_made ch m.loads t (get_or m.nodes i 0)
+    module _ {e : Node} (ee : e ≡ node_by ch m.loads l r t.cells (get_or (nodes_given m) i 0)) where
+      made : e ≡ node_made ch m.loads t (get_or (nodes_given m) i 0)
       unfolding node_made
-      made = ee ∙ (λ j. node_by ch m.loads (found_left j) (found_right j) t.cells (get_or m.nodes i 0))
+      made = ee ∙ (λ j. node_by ch m.loads (el j) (er j) t.cells (get_or (nodes_given m) i 0))
 
       cells_low : e.cells ≤ 2 ^ 32
-      cells_low = subst (λ (n : Node). n.cells ≤ 2 ^ 32) (sym made) (made_cells ch w.few m.loads t (get_or m.nodes i 0))
+      cells_low = subst (λ (n : Node). n.cells ≤ 2 ^ 32) (sym made) (made_cells ch m.loads t (get_or (nodes_given m) i 0))
 
       pairs_low : e.pairs ≤ 136 ^ 8
-      pairs_low = subst (λ (n : Node). n.pairs ≤ 136 ^ 8) (sym made) (made_pairs ch w.few m.loads t (get_or m.nodes i 0))
+      pairs_low = subst (λ (n : Node). n.pairs ≤ 136 ^ 8) (sym made) (made_pairs ch m.loads t (get_or (nodes_given m) i 0))
 
       pub cells_fit : t.cells + e.cells < 2 ^ 64
-      cells_fit = omega (arith, cells_low, w.grown.cells_low, w.model.count_range)
+      cells_fit = omega (arith, cells_low, w.grown.cells_low, low, w.model.count_range)
 
       pub pairs_fit : t.pairs + e.pairs < 2 ^ 64
-      pairs_fit = omega (arith, pairs_low, w.grown.pairs_low, w.model.count_range)
+      pairs_fit = omega (arith, pairs_low, w.grown.pairs_low, low, w.model.count_range)
 
       pub turn_growing : Growing m ch (with_node t e) (i + 1)
       unfolding with_node
@@ -324,13 +303,13 @@ module _ {m : Model} {ch : Chains} {t : Table} {i : ℕ} (w : Growing m ch t i) 
           rw (add-one i)
           (record {
             model = w.model;
-            few = w.few;
+            windows_long = w.windows_long;
             chains_are = w.chains_are;
             totals_are = w.totals_are;
             grown =
                 record {
-                  at_most = omega arith;
-                  standing = standing_more t e w.grown.standing (subst (λ n. Follows m ch.windows t (get_or m.nodes i 0) n (stack (nodes_given m) i) (stack (nodes_given m) (suc i))) (sym made) turn) count_low;
+                  at_most = omega (arith, low);
+                  standing = standing_more t e w.grown.standing (subst (λ n. Follows m ch.windows t (get_or (nodes_given m) i 0) n (stack (nodes_given m) i) (stack (nodes_given m) (suc i))) (sym made) turn) count_low;
                   cells_low = omega (arith, cells_low, w.grown.cells_low);
                   pairs_low = omega (arith, pairs_low, w.grown.pairs_low);
                 };

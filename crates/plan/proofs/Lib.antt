@@ -1,4 +1,3 @@
-pub mod CoveringLaws
 pub mod RowLaws
 pub mod FewLaws
 pub mod BackLaws

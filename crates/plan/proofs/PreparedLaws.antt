@@ -17,11 +17,11 @@ use Rattle.modelfile.specs.declared.Model.{Model}
 use Rattle.calls.specs.Asked.{pairs_listed}
 use Rattle.calls.proofs.FileLaws.{Fit, fit, take_low, length_routes}
 use Rattle.calls.proofs.SlotLaws.{listed_pairs}
-use Rattle.plan.specs.Table.{totals_of, routes_in, windows_in}
-use Rattle.plan.specs.Steps.{Few, no_node}
+use Rattle.plan.specs.Table.{routes_in, windows_in}
+use Rattle.plan.specs.Steps.{no_node}
 use Rattle.plan.specs.Asking.{Prepared, chains_of}
+use Rattle.plan.specs.declared.Chains.{Chains}
 use Rattle.plan.specs.declared.Table.{Table}
-use Rattle.plan.proofs.RowLaws.{length-row}
 use Rattle.plan.proofs.EntriesLaws.{entry_of, entries-postorder}
 
 -- the nodes of a model's tree, each with where its subtree's cells begin
@@ -37,14 +37,11 @@ module _ {m : Model} {windows : List ℕ} {t : Table} (p : Prepared m windows t)
   pub fits : Fit m (windows_in m windows)
   fits = fit m p.guaranteed (windows_in m windows) length_windows (take_low m.chains windows 15 p.windows_low)
 
-  pub few : Few (chains_of m windows t)
-  unfolding totals_of
-  few = record {
-    chains_few = p.guaranteed.chains_range.1;
-    totals_long = ap length p.tabled.totals_are ∙ length-row _ (length (windows_in m windows)) (omega (arith, length_windows, p.guaranteed.chains_range));
-    windows_long = p.windows_long;
-    window_range = p.windows_low;
-  }
+  -- the chains that the code makes
+  pub chains_made : {ch : Chains}
+      → ((few : m.chains ≤ 8) (low : (k : ℕ) → get_or windows k 0 ≤ 15)
+      → ch ≡ record { count = m.chains; totals = t.totals; windows = windows; chains_few = few; window_range = low }) → chains_of p ≡ ch
+  chains_made e = sym (e p.guaranteed.chains_range.1 p.windows_low)
 
   pub some_cells : 1 ≤ t.cells
   some_cells = omega (arith, p.tabled.cells_are, cells_some (routes_in m) (windows_in m windows) (tree_of m))

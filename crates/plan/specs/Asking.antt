@@ -20,8 +20,8 @@ abbrev pub Ready : Run → Type 0
 Ready run = Prepared run.model run.windows run.table
 
 -- the chains of a run
-abbrev pub chains_of : Model → List ℕ → Table → Chains
-chains_of m windows t = record { count = m.chains; totals = t.totals; windows = windows }
+abbrev pub chains_of : {m : Model} {windows : List ℕ} {t : Table} → Prepared m windows t → Chains
+chains_of {m} {windows} {t} p = record { count = m.chains; totals = t.totals; windows = windows; chains_few = p.guaranteed.chains_range.1; window_range = p.windows_low }
 
 -- what the code answers, as the definition of the calls has it: the windows of the run stand at the front of their array
 unfoldable pub asked_of : Result Run Refusal → Asked

@@ -18,13 +18,6 @@ covering Cover.Finished = finished
 covering Cover.Partial = partial
 covering Cover.Absent = absent
 
--- at most 8 chains, with windows of at most 15
-pub record Few (ch : Chains) : Type 0 where
-  pub chains_few : ch.count ≤ 8
-  pub totals_long : length ch.totals ≡ 8
-  pub windows_long : length ch.windows ≡ 8
-  pub window_range : (k : ℕ) → get_or ch.windows k 0 ≤ 15
-
 -- chain k + 1 visits centre c, by the loads
 unfoldable pub loaded_by : List ℕ → ℕ → ℕ → Bool
 loaded_by loads k c = visit (get_or loads ((c - 1) * 8 + k) 0)
@@ -99,15 +92,15 @@ pub record Small (e : Node) : Type 0 where
 abbrev pub no_node : Node
 no_node = record { centre = 0; span = 0; counts = []; base = 0; cells = 0; strides = []; pairs = 0 }
 
--- a join's children: the latest entry, and the one before the latest's subtree
-unfoldable pub right_of : Table → Node
-right_of t = get_or t.nodes (t.count - 1) no_node
+-- the children of a join at place i: the entry before it, and the one before that one's subtree
+unfoldable pub right_of : Table → ℕ → Node
+right_of t i = get_or t.nodes (i - 1) no_node
 
-unfoldable pub left_of : Table → Node
-left_of t = get_or t.nodes (t.count - 1 - (right_of t).span) no_node
+unfoldable pub left_of : Table → ℕ → Node
+left_of t i = get_or t.nodes (i - 1 - (right_of t i).span) no_node
 
 unfoldable pub node_made : Chains → List ℕ → Table → ℕ → Node
-node_made ch loads t node = node_by ch loads (left_of t) (right_of t) t.cells node
+node_made ch loads t node = node_by ch loads (left_of t t.count) (right_of t t.count) t.cells node
 
 unfoldable pub with_node : Table → Node → Table
 with_node t e = record { nodes = set t.nodes t.count e; count = t.count + 1; totals = t.totals; cells = t.cells + e.cells; pairs = t.pairs + e.pairs }
@@ -121,5 +114,5 @@ empty_table totals =
 pub record Ready (t : Table) (node : ℕ) : Type 0 where
   pub few : t.count ≤ 31
   pub leaf_range : node ≤ 16
-  pub left_small : node ≡ 0 → Small (left_of t)
-  pub right_small : node ≡ 0 → Small (right_of t)
+  pub left_small : node ≡ 0 → Small (left_of t t.count)
+  pub right_small : node ≡ 0 → Small (right_of t t.count)

@@ -1,13 +1,23 @@
 // What plan, start and advance have in common: a file and a chain to lower are refused with 1 to 11, or give a run.
+ghost use Rattle.std.specs.Prelude.{◌≡◌};
 ghost use Rattle.modelfile.proofs.Guaranteed.{Guaranteed};
 ghost use Rattle.calls.specs.Asked.{lowering, ask};
-ghost use Rattle.plan.specs.Asking.{RunFor};
+ghost use Rattle.plan.specs.Asking.{Ready, RunFor, chains_of};
 
-use crate::Run;
+use crate::{Chains, Run};
 use crate::tables::make_table;
 use crate::windows::lowered;
 use calls::Refusal;
 use modelfile::Model;
+
+impl Run {
+    pub fn chains(&self) -> Chains
+        requires { Ready self.now }
+        ensures { (p : Ready self.now) → chains_of p ≡ result }
+    {
+        Chains::new(self.model.chains, self.table.totals, self.windows)
+    }
+}
 
 pub fn run_of(m: Model, lower: u64) -> Result<Run, Refusal>
     requires { Guaranteed m }

@@ -5,9 +5,11 @@ mod arrays; // arrays.rt: a node's cells and strides
 pub mod asking; // asking.rt: from a file and a chain to lower to a model, its windows and its table
 pub mod coverage; // coverage.rt: a chain's coverage by counting, and what it makes of cells and pairs
 mod nodes; // nodes.rt: one node of the table
+mod rows; // rows.rt: one number a chain
 pub mod tables; // tables.rt: the table, node by node
 pub mod windows; // windows.rt: the windows of a run
 
+ghost use Rattle.std.specs.Prelude.{◌≡◌, ℕ, ◌≤◌, get_or};
 ghost use Rattle.calls.specs.Promises.{PlanAllows};
 
 use crate::asking::prepare;
@@ -28,6 +30,21 @@ pub struct Chains {
     pub count: usize,
     pub totals: [usize; 8],
     pub windows: [usize; 8],
+    pub ghost chains_few: { count ≤ 8 },
+    pub ghost window_range: { (k : ℕ) → get_or windows k 0 ≤ 15 },
+}
+
+impl Chains {
+    pub fn new(count: usize, totals: [usize; 8], windows: [usize; 8]) -> Self
+        requires few { (count ≤ 8) × ((k : ℕ) → get_or windows k 0 ≤ 15) }
+        ensures { (few : count ≤ 8) (low : (k : ℕ) → get_or windows k 0 ≤ 15) → result ≡ record { count = count; totals = totals; windows = windows; chains_few = few; window_range = low } }
+    {
+        Chains {
+            count,
+            totals,
+            windows,
+        }
+    }
 }
 
 // What the coverage at a node makes of its array: how many cells, and each chain's stride.

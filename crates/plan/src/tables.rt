@@ -2,59 +2,69 @@
 // child the entry before the right subtree.
 ghost use Rattle.std.specs.Prelude.{◌≡◌, ℕ, ◌-◌, ◌≤◌, ◌<◌, length, get_or, take};
 ghost use Rattle.sums.specs.Lists.{from};
+ghost use Rattle.std.specs.Prelude.{count_by as counting, ◌+◌};
+ghost use Rattle.std.specs.List.{range_with_len};
+ghost use Rattle.plan.specs.Steps.{loaded_by};
 ghost use Rattle.modelfile.proofs.Guaranteed.{Guaranteed};
 ghost use Rattle.plan.specs.Table.{row, Tabled};
-ghost use Rattle.plan.specs.Steps.{count_by, node_by, empty_table, Few, Small};
+ghost use Rattle.plan.specs.Steps.{count_by, left_of, right_of, node_by, empty_table, Small};
 
-use crate::nodes::{join_node, leaf_node, visiting};
+use crate::nodes::{join_node, leaf_node, visits};
+use crate::rows::row;
 use crate::{Chains, Node, Table};
 use modelfile::Model;
 
 // How many centres the chain at `k` visits.
 fn total(loads: &[u64; 128], centres: usize, k: usize) -> usize
     requires { (centres ≤ 16) × (k < 8) }
-    ensures { result ≡ count_by loads.now k (from 1 centres) }
+    ensures { result ≡ counting (λ c. loaded_by loads.now k (c + 1)) (range_with_len 0 centres) }
 {
-    let mut sum: usize = 0;
-    let mut c = 0;
-    while c < centres {
-        c += 1;
-        sum += visiting(loads, c, k);
-    }
-    sum
+    (0..centres).filter(|c| visits(loads, *c + 1, k)).count()
 }
 
+#[tactic(auto, using(crate::proofs::LoadLaws::counted))]
 fn totals_of(loads: &[u64; 128], centres: usize, chains: usize) -> [usize; 8]
     requires { (centres ≤ 16) × (chains ≤ 8) }
     ensures { result ≡ row chains (λ k. count_by loads.now k (from 1 centres)) }
 {
-    let mut totals = [0usize; 8];
-    let mut k = 0;
-    while k < chains {
-        totals[k] = total(loads, centres, k);
-        k += 1;
-    }
-    totals
+    row(chains, |k| total(loads, centres, k))
 }
 
-// i less n, 0 where that is less than 0.
-pub fn back(i: usize, n: usize) -> usize
-    ensures { result ≡ i - n }
-{
-    if n <= i { i - n } else { 0 }
+impl Table {
+    // The left and the right child of a join at place `i`.
+    #[tactic(auto, unfolding(crate::specs::Steps::left_of, crate::specs::Steps::right_of))]
+    pub fn children(&self, i: usize) -> (&Node, &Node)
+        requires { i ≤ 31 }
+        ensures left { result.0.now ≡ left_of self.now i }
+        ensures right { result.1.now ≡ right_of self.now i }
+    {
+        let right = &self.nodes[i.saturating_sub(1)];
+        let left = &self.nodes[i.saturating_sub(1).saturating_sub(right.span)];
+        (left, right)
+    }
 }
 
 // The entry of the next node: 0 is a join of the two entries, any other number a leaf's centre.
-fn made(ch: Chains, loads: &[u64; 128], left: Node, right: Node, base: usize, node: usize) -> Node
-    requires { Few ch × (node ≤ 16) × (node ≡ 0 → Small left × Small right) }
-    ensures { result ≡ node_by ch loads.now left right base node }
+#[tactic(auto, unfolding(crate::specs::Steps::node_by))]
+fn made(
+    ch: &Chains,
+    loads: &[u64; 128],
+    left: &Node,
+    right: &Node,
+    base: usize,
+    node: usize,
+) -> Node
+    requires { (node ≤ 16) × (node ≡ 0 → Small left.now × Small right.now) }
+    ensures { result ≡ node_by ch.now loads.now left.now right.now base node }
 {
     if node == 0 {
-        return join_node(ch, left, right, base);
+        join_node(ch, left, right, base)
+    } else {
+        leaf_node(ch, loads, node, base)
     }
-    leaf_node(ch, loads, node, base)
 }
 
+#[tactic(auto, unfolding(crate::specs::Steps::empty_table))]
 pub fn empty_table(totals: [usize; 8]) -> Table
     ensures { result ≡ empty_table totals }
 {
@@ -81,28 +91,17 @@ pub fn make_table(m: Model, windows: [usize; 8]) -> Table
     requires { Guaranteed m × ((k : ℕ) → get_or windows k 0 ≤ 15) × (length windows ≡ 8) }
     ensures { Tabled m windows result }
 {
-    let loads = m.loads;
-    let nodes = m.nodes;
-    let totals = totals_of(&loads, m.centres, m.chains);
-    let ch = Chains {
-        count: m.chains,
-        totals,
-        windows,
-    };
+    let totals = totals_of(&m.loads, m.centres, m.chains);
+    let ch = Chains::new(m.chains, totals, windows);
     let mut t = empty_table(totals);
-    let mut i = 0;
-    while i < m.count {
+    for node in &m.nodes[..m.count] {
         let n = t.count;
-        let r = back(n, 1);
-        let right = t.nodes[r];
-        let l = back(r, right.span);
-        let left = t.nodes[l];
-        let e = made(ch, &loads, left, right, t.cells, nodes[i]);
+        let (left, right) = t.children(n);
+        let e = made(&ch, &m.loads, left, right, t.cells, *node);
         t.nodes[n] = e;
-        t.count = n + 1;
-        t.cells = t.cells + e.cells;
-        t.pairs = t.pairs + e.pairs;
-        i += 1;
+        t.count += 1;
+        t.cells += e.cells;
+        t.pairs += e.pairs;
     }
     t
 }

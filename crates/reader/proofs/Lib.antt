@@ -4,3 +4,4 @@ pub mod NodeLaws
 pub mod DueLaws
 pub mod KindLaws
 pub mod FileLaws
+pub mod SomeLaws

@@ -1,6 +1,6 @@
 // The model as far as it is read: where a record notes something, and what refusals 5, 6 and 8 look at.
 ghost use Rattle.std.specs.Prelude.{◌≡◌, ◌&&◌, not, ◌≤◌, ◌<◌, ◌-◌, eqb, get_or};
-ghost use Rattle.sums.specs.Lists.{from, some};
+ghost use Rattle.std.specs.List.{list_any, range_with_len};
 ghost use Rattle.modelfile.specs.Ends.{last_centre, last_chain};
 ghost use Rattle.modelfile.specs.Model.{empty_model, slot, first_place};
 ghost use Rattle.modelfile.specs.Records.{loaded, chain_without_centre, centre_missing};
@@ -9,6 +9,7 @@ ghost use Rattle.modelfile.proofs.StepLaws.{Within};
 use crate::numbers::{Centre, Chain};
 use modelfile::Model;
 
+#[tactic(auto, unfolding(modelfile::specs::Model::empty_model))]
 pub fn empty_model() -> Model
     ensures { result ≡ empty_model }
 {
@@ -37,36 +38,22 @@ pub fn slot_of(centre: Centre, chain: Chain) -> usize
 pub fn first_place(count: usize, at: usize, first: usize) -> usize
     ensures { result ≡ first_place (eqb count 0) at first }
 {
-    if count == 0 {
-        return at;
-    }
-    first
+    if count == 0 { at } else { first }
 }
 
 // Whether chain k + 1 has a centre.
 fn has_centre(loads: &[u64; 128], k: usize) -> bool
     requires { k < 8 }
-    ensures { result ≡ some (loaded loads.now k) (from 0 last_centre) }
+    ensures { result ≡ list_any (loaded loads.now k) (range_with_len 0 last_centre) }
 {
-    for c in 0..Centre::LAST {
-        if loads[c * Chain::LAST + k] != 0 {
-            return true;
-        }
-    }
-    false
+    (0..Centre::LAST).any(|c| loads[c * Chain::LAST + k] != 0)
 }
 
 fn chain_without_centre(m: Model) -> bool
     requires { m.chains ≤ 8 }
-    ensures { result ≡ chain_without_centre m }
+    ensures { result ≡ list_any (λ k. not (list_any (loaded m.loads k) (range_with_len 0 last_centre))) (range_with_len 0 m.chains) }
 {
-    let chains = m.chains;
-    for k in 0..chains {
-        if !has_centre(&m.loads, k) {
-            return true;
-        }
-    }
-    false
+    (0..m.chains).any(|k| !has_centre(&m.loads, k))
 }
 
 // 5 is looked at where no node stands yet.
@@ -74,10 +61,7 @@ pub fn first_leaf_fails(m: Model) -> bool
     requires { m.chains ≤ 8 }
     ensures { result ≡ (eqb m.count 0 && chain_without_centre m) }
 {
-    if m.count == 0 {
-        return chain_without_centre(m);
-    }
-    false
+    m.count == 0 && chain_without_centre(m)
 }
 
 pub fn is_placed(m: Model, centre: Centre) -> bool
@@ -92,11 +76,5 @@ pub fn centre_missing(m: Model) -> bool
     requires { m.centres ≤ 16 }
     ensures { result ≡ centre_missing m }
 {
-    let centres = m.centres;
-    for c in 0..centres {
-        if m.placed[c] == 0 {
-            return true;
-        }
-    }
-    false
+    m.placed[..m.centres].contains(&0)
 }

@@ -47,6 +47,7 @@ impl<const LAST: usize> Number<LAST> {
     }
 }
 
+#[tactic(auto, unfolding(modelfile::specs::Ends::outside))]
 pub fn is_outside(first: usize, last: usize, n: usize) -> bool
     ensures { result ≡ outside first last n }
 {

@@ -55,7 +55,7 @@ parts_of left right own = record { left = record { from = left.base; to = left.b
 
 module _ {ch : Chains} {left right own : Node} {n : ℕ} (j : JoinIn ch left right own n) where
   few_windows : length j.windows ≤ 8
-  few_windows = omega (arith, j.count_is, j.few.chains_few)
+  few_windows = omega (arith, j.count_is, ch.chains_few)
 
   -- the ends of all parts
   pub ends : (left.base + left.cells ≤ n) × (right.base + right.cells ≤ n) × (own.base + own.cells ≤ n)
@@ -93,7 +93,7 @@ module _ {ch : Chains} {left right own : Node} {n : ℕ} (j : JoinIn ch left rig
         others = j.rest;
         parted = j.parted;
         chains = omega (arith, ap length windows_taken, few_windows);
-        messages = take_low (ch.count - 0) ch.windows 15 j.few.window_range;
+        messages = take_low (ch.count - 0) ch.windows 15 ch.window_range;
         left_strides = strided left j.l j.start j.left_is;
         right_strides = strided right j.r (j.start + all_cells j.routes j.windows j.l) j.right_is;
         own_strides = strided own (join j.l j.r) j.start j.own_is;

@@ -21,12 +21,12 @@ use Rattle.modelfile.specs.declared.Model.{Model}
 use Rattle.calls.specs.Asked.{cells_in, pairs_listed}
 use Rattle.plan.specs.Asking.{Prepared, chains_of}
 use Rattle.plan.specs.Table.{entry, routes_in, windows_in}
-use Rattle.plan.specs.Steps.{no_node}
+use Rattle.plan.specs.Steps.{no_node, left_of, right_of}
 use Rattle.plan.specs.declared.Chains.{Chains}
 use Rattle.plan.specs.declared.Node.{Node}
 use Rattle.plan.specs.declared.Table.{Table}
 use Rattle.plan.proofs.EntriesLaws.{entry_of}
-use Rattle.plan.proofs.PreparedLaws.{tree_nodes, length_windows, few, parted_all, centre_range, length_nodes, entry_at}
+use Rattle.plan.proofs.PreparedLaws.{tree_nodes, length_windows, parted_all, centre_range, length_nodes, entry_at}
 use Rattle.joins.specs.Walk.{state, walk, ended, next_turn}
 use Rattle.joins.specs.declared.Quota.{Quota}
 use Rattle.joins.proofs.WalkLaws.{walk-append, walk-ended}
@@ -58,24 +58,25 @@ module _ {m : Model} {windows : List ℕ} {t : Table} (p : Prepared m windows t)
     here_room = omega (arith, room_at (routes_in m) (windows_in m windows) (tree_of m) 0 i (omega (arith, length_nodes p)), base_is (routes_in m) (windows_in m windows) (get_or (tree_nodes m windows) i nowhere).0 (get_or (tree_nodes m windows) i nowhere).1)
 
     -- the node with its children, where the code finds them
-    pub node_in : (r l : ℕ) → r ≡ i - 1 → l ≡ r - (node_at t r).span → (n old : ℕ) → n ≡ old → cells_in m (windows_in m windows) ≤ old → (x : NodeIn (chains_of m windows t) (node_at t l) (node_at t r) (node_at t i) n) × (node_pairs x ≡ pairs_of (routes_in m) (windows_in m windows) (get_or (tree_nodes m windows) i nowhere))
-    node_in r l a b n old same room = by (get_or (tree_nodes m windows) i nowhere) refl (parted_in (routes_in m) (windows_in m windows) (tree_of m) [] (parted_all p) 0 _ here_in) here_room
+    pub node_in : {l r : Node} → l ≡ left_of t i → r ≡ right_of t i → (n old : ℕ) → n ≡ old → cells_in m (windows_in m windows) ≤ old
+        → (x : NodeIn (chains_of p) l r (node_at t i) n) × (node_pairs x ≡ pairs_of (routes_in m) (windows_in m windows) (get_or (tree_nodes m windows) i nowhere))
+    unfolding left_of right_of
+    node_in a b n old same room = rw (a, b) (by (get_or (tree_nodes m windows) i nowhere) refl (parted_in (routes_in m) (windows_in m windows) (tree_of m) [] (parted_all p) 0 _ here_in) here_room)
       where
         by : (x : Tree × ℕ) → get_or (tree_nodes m windows) i nowhere ≡ x → (others : List ℕ) × Parted (routes_in m) (under x.0) others → x.1 + all_cells (routes_in m) (windows_in m windows) x.0 ≤ cells_in m (windows_in m windows)
-            → (y : NodeIn (chains_of m windows t) (node_at t l) (node_at t r) (node_at t i) n) × (node_pairs y ≡ pairs_of (routes_in m) (windows_in m windows) x)
+            → (y : NodeIn (chains_of p) (left_of t i) (right_of t i) (node_at t i) n) × (node_pairs y ≡ pairs_of (routes_in m) (windows_in m windows) x)
         by (leaf c, start) e parted low = (NodeIn.alone (routes_in m) (windows_in m windows) c start (entry_is i h (leaf c, start) e) (centre_range p c parted.0 parted.1).0, refl)
         by (join x y, start) e parted low =
             let k = children (routes_in m) (windows_in m windows) (tree_of m) 0 i (omega (arith, length_nodes p, length-postorder (routes_in m) (windows_in m windows) (tree_of m) 0)) x y start e in
             let second : ℕ = start + all_cells (routes_in m) (windows_in m windows) x in
-            let right : node_at t r ≡ entry_of (routes_in m) (windows_in m windows) (y, second) = ap (node_at t) a ∙ entry_is (i - 1) (omega (arith, k.enough, nodes_some x)) _ k.right in
-            let place : l ≡ i - 1 - nodes_in y = b ∙ (λ j. a j - (ap (λ e. e.span) right ∙ span_at (y, second)) j) in (
+            let right : right_of t i ≡ entry_of (routes_in m) (windows_in m windows) (y, second) = entry_is (i - 1) (omega (arith, k.enough, nodes_some x)) _ k.right in
+            let place : i - 1 - (right_of t i).span ≡ i - 1 - nodes_in y = ap (λ n. i - 1 - n) (ap (λ (e : Node). e.span) right ∙ span_at (y, second)) in (
               NodeIn.joined (record {
                 routes = routes_in m;
                 windows = windows_in m windows;
                 l = x;
                 r = y;
                 start = start;
-                few = few p;
                 count_is = sym (length_windows p);
                 windows_are = refl;
                 left_is = ap (node_at t) place ∙ entry_is (i - 1 - nodes_in y) (omega (arith, k.enough, nodes_some x)) _ k.left;
@@ -87,6 +88,10 @@ module _ {m : Model} {windows : List ℕ} {t : Table} (p : Prepared m windows t)
               }),
               refl,
             )
+
+    -- of the chains that the code makes
+    pub node_ready : {ch : Chains} {l r : Node} → chains_of p ≡ ch → l ≡ left_of t i → r ≡ right_of t i → (n old : ℕ) → n ≡ old → cells_in m (windows_in m windows) ≤ old → NodeIn ch l r (node_at t i) n
+    node_ready {l = l} {r = r} e a b n old same room = subst (λ ch. NodeIn ch l r (node_at t i) n) e (node_in a b n old same room).0
 
     pairs_more : pairs_to m windows (i + 1) ≡ pairs_to m windows i ++ pairs_of (routes_in m) (windows_in m windows) (get_or (tree_nodes m windows) i nowhere)
     unfolding flat_map
@@ -116,7 +121,7 @@ module _ {m : Model} {windows : List ℕ} {t : Table} (p : Prepared m windows t)
 pub record Walked (t : Table) (ch : Chains) (q : Quota) (old : List ℕ) (e : Quota) (area : List ℕ) (i : ℕ) : Type 0 where
   pub low : i ≤ t.count
   pub long : length area ≡ length old
-  pub is : (m : Model) (windows : List ℕ) → Prepared m windows t → chains_of m windows t ≡ ch → cells_in m (windows_in m windows) ≤ length old → state e area ≡ walk (pairs_to m windows i) (state q old)
+  pub is : (m : Model) (windows : List ℕ) → (p : Prepared m windows t) → chains_of p ≡ ch → cells_in m (windows_in m windows) ≤ length old → state e area ≡ walk (pairs_to m windows i) (state q old)
 
 pub walked_first : (t : Table) (ch : Chains) (q : Quota) (old : List ℕ) → Walked t ch q old q old 0
 unfolding walk flat_map
@@ -124,16 +129,16 @@ walked_first t ch q old = record { low = omega arith; long = refl; is = λ m win
 
 module _ {t : Table} {ch : Chains} {q : Quota} {old : List ℕ} {e : Quota} {area : List ℕ} {i : ℕ} (w : Walked t ch q old e area i) where
   -- one node more
-  pub walked_turn : i < t.count → (r l : ℕ) → r ≡ i - 1 → l ≡ r - (node_at t r).span → (f : Quota) (after : List ℕ) → length after ≡ length area
-      → ((x : NodeIn ch (node_at t l) (node_at t r) (node_at t i) (length area)) → state f after ≡ walk (node_pairs x) (state e area))
+  pub walked_turn : i < t.count → {l r : Node} → l ≡ left_of t i → r ≡ right_of t i → (f : Quota) (after : List ℕ) → length after ≡ length area
+      → ((x : NodeIn ch l r (node_at t i) (length area)) → state f after ≡ walk (node_pairs x) (state e area))
       → Walked t ch q old f after (i + 1)
-  walked_turn h r l a b f after long gives = record {
+  walked_turn h {l} {r} a b f after long gives = record {
     low = omega arith;
     long = long ∙ w.long;
     is = λ m windows p c room.
         let x : Tree × ℕ = get_or (tree_nodes m windows) i nowhere in
-        let y : (y : NodeIn ch (node_at t l) (node_at t r) (node_at t i) (length area)) × (node_pairs y ≡ pairs_of (routes_in m) (windows_in m windows) x) =
-        subst (λ ch. (y : NodeIn ch (node_at t l) (node_at t r) (node_at t i) (length area)) × (node_pairs y ≡ pairs_of (routes_in m) (windows_in m windows) x)) c (node_in p i h r l a b (length area) (length old) w.long room) in
+        let y : (y : NodeIn ch l r (node_at t i) (length area)) × (node_pairs y ≡ pairs_of (routes_in m) (windows_in m windows) x) =
+        subst (λ ch. (y : NodeIn ch l r (node_at t i) (length area)) × (node_pairs y ≡ pairs_of (routes_in m) (windows_in m windows) x)) c (node_in p i h a b (length area) (length old) w.long room) in
         gives y.0
         ∙ (λ k. walk (y.1 k) (w.is m windows p c room k))
         ∙ sym (walk-append (pairs_to m windows i) (pairs_of (routes_in m) (windows_in m windows) x) (state q old))
@@ -158,5 +163,5 @@ module _ {t : Table} {ch : Chains} {q : Quota} {old : List ℕ} {e : Quota} {are
       }
       by false end d = rw (d ∙ sym a) w
 
-  pub walked_last : (m : Model) (windows : List ℕ) → Prepared m windows t → chains_of m windows t ≡ ch → cells_in m (windows_in m windows) ≤ length old → t.count ≤ i → state e area ≡ walk (pairs_listed m (windows_in m windows)) (state q old)
+  pub walked_last : (m : Model) (windows : List ℕ) → (p : Prepared m windows t) → chains_of p ≡ ch → cells_in m (windows_in m windows) ≤ length old → t.count ≤ i → state e area ≡ walk (pairs_listed m (windows_in m windows)) (state q old)
   walked_last m windows p c room h = w.is m windows p c room ∙ ap (λ ps. walk ps (state q old)) (pairs_all p i h)

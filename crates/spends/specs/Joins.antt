@@ -6,7 +6,6 @@ use Rattle.network.specs.Cells.{all_cells}
 use Rattle.network.specs.Pairs.{Pair, own_pairs}
 use Rattle.network.proofs.CoverageLaws.{Parted}
 use Rattle.plan.specs.Table.{entry}
-use Rattle.plan.specs.Steps.{Few}
 use Rattle.plan.specs.declared.Chains.{Chains}
 use Rattle.plan.specs.declared.Node.{Node}
 
@@ -17,7 +16,6 @@ pub record JoinIn (ch : Chains) (left right own : Node) (n : ℕ) : Type 0 where
   pub l : Tree
   pub r : Tree
   pub start : ℕ
-  pub few : Few ch
   pub count_is : ch.count ≡ length windows
   pub windows_are : take ch.count ch.windows ≡ windows
   pub left_is : left ≡ entry routes windows l start

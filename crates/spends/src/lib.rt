@@ -11,7 +11,6 @@ ghost use Rattle.spends.specs.Joins.{JoinIn, NodeIn, join_pairs, node_pairs};
 use cellsums::Part;
 use joins::{Join, Quota};
 use modelfile::Model;
-use plan::tables::back;
 use plan::{Chains, Node, Table};
 
 // The pairs of a join, from the table's entries of its children and its own.
@@ -77,20 +76,13 @@ fn table_pairs(m: Model, windows: [usize; 8], t: Table, area: &mut [u64], q: Quo
     requires room { cells_in m (windows_in m windows) ≤ length area.old }
     ensures { state result area.new ≡ walk (pairs_listed m (windows_in m windows)) (state q area.old) }
 {
-    let ch = Chains {
-        count: m.chains,
-        totals: t.totals,
-        windows,
-    };
+    let ch = Chains::new(m.chains, t.totals, windows);
     let mut e = q;
     let mut i = 0;
     while i < t.count {
-        let r = back(i, 1);
-        let right = t.nodes[r];
-        let l = back(r, right.span);
-        let left = t.nodes[l];
+        let (left, right) = t.children(i);
         let own = t.nodes[i];
-        e = node_pairs(ch, left, right, own, area, e);
+        e = node_pairs(ch, *left, *right, own, area, e);
         i = joins::next(i, t.count, e.over, e.skip, e.budget);
     }
     e
@@ -107,7 +99,7 @@ pub fn spend(m: Model, windows: [usize; 8], t: Table, area: &mut [u64], q: Quota
     }
     if q.budget == 0 {
         return Quota {
-            skip: back(q.skip, t.pairs as usize),
+            skip: q.skip.saturating_sub(t.pairs as usize),
             budget: 0,
             over: false,
         };

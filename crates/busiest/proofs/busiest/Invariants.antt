@@ -1,10 +1,6 @@
--- `busiest` meets its contract. The loop's invariant: `best` is the first of the largest among the centres before c (`Busy`).
-use Prim.Native.Nat.{◌-◌, ◌+◌}
+-- `busiest` meets its contract. The loop's invariant: `busiest` is the first of the largest among the centres before this one (`Busy`).
 use Rattle.busiest.proofs.BusiestLaws.{Busy}
 use Rattle.busiest.proofs.busiest.Given as goal
 
-abbrev pub invariant-loop-c : goal.invariant-loop-c
-invariant-loop-c l = Busy l.m l.best l.c
-
-abbrev pub decreases-loop-c : goal.decreases-loop-c
-decreases-loop-c l = l.m.centres + 1 - l.c
+abbrev pub invariant-loop-centre : goal.invariant-loop-centre
+invariant-loop-centre l = Busy l.fn.m l.busiest l.most l.centre

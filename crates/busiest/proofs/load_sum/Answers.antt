@@ -1,23 +1,18 @@
--- `load_sum` meets its contract. The loop's invariant: the loads of the first k chains are added, each at most 65535 (`Summed`).
-use Prim.Native.Nat.{◌+◌, ◌-◌, ◌*◌}
-use native.Mathlib.Omega.{arith}
-use Rattle.busiest.proofs.BusiestLaws.{summed_first, summed_turn, summed_last}
+-- `load_sum` meets its contract: the loads are those of the centre's chains, each at most 65535.
+use mathlib.Core.Path.{◌≡◌, ◌∙◌}
+use Prim.Native.Nat.{◌<◌, ◌^◌}
+use borrow.Author.Rules.{rules}
+use Rattle.std.specs.Prelude.{sum}
+use Rattle.std.proofs.iter.runs.Made.{chains}
+use Rattle.busiest.proofs.BusiestLaws.{loads_at, sum_low, sum_loads}
 use Rattle.busiest.proofs.load_sum.Goals as goal
 
-pub loop-k-init : goal.loop-k-init
-loop-k-init c = summed_first _ c.requires.0 _
-
-pub overflow_add-sum : goal.overflow_add-sum
-overflow_add-sum c = record { fits = omega (arith, c.requires.0.chains_range, c.requires.0.centres_range) }
-
-pub bounds-loads-first : goal.bounds-loads-first
-bounds-loads-first c = omega (arith, c.requires.0.loads_long, c.requires.0.chains_range, c.requires.0.centres_range)
-
-pub overflow_add-sum-in-loop-k : goal.overflow_add-sum-in-loop-k
-overflow_add-sum-in-loop-k c = record { fits = omega (arith, c.loop-k.invariant.low, c.requires.0.chains_range, c.requires.0.load_range ((c.args.centre - 1) * 8 + c.loop-k.k)) }
-
-pub loop-k-preserved : goal.loop-k-preserved
-loop-k-preserved c = summed_turn _ c.requires.0 _ c.loop-k.invariant c.loop-k-test.true c.requires.1 c.requires.2
+pub sum-requires-clause-fits : goal.sum-requires-clause-fits
+sum-requires-clause-fits c =
+    let h : sum (loads_at c.args.m c.requires.0 c.args.centre) < 2 ^ 64 = sum_low c.args.m c.requires.0 c.args.centre in
+    search (rules, chains)
 
 pub returns : goal.returns
-returns c = summed_last _ c.requires.0 _ c.loop-k.invariant c.loop-k-test.false
+returns c =
+    let e : c.sum.result ≡ sum (loads_at c.args.m c.requires.0 c.args.centre) = search (rules, chains) in
+    e ∙ sum_loads c.args.m c.requires.0 c.args.centre

@@ -3,4 +3,4 @@ use Rattle.fills.proofs.TurnLaws.{Written}
 use Rattle.fills.proofs.fill.Given as goal
 
 abbrev pub invariant-loop-n : goal.invariant-loop-n
-invariant-loop-n l = Written l.m.loads l.ch l.fn.t l.initial.area l.area l.n-index
+invariant-loop-n l = Written l.run.model.loads l.ch l.run.table l.initial.area l.area l.n-index

@@ -4,13 +4,16 @@ use native.Mathlib.Omega.{arith}
 use Rattle.plan.proofs.arrays.shape.Goals as goal
 
 pub loop-k-init : goal.loop-k-init
-loop-k-init c = shaped_first _ _ _ _ c.requires.chains_few
-
-pub size-cells-requires : goal.size-cells-requires
-size-cells-requires c = c.requires.window_range _
+loop-k-init c = shaped_first _ _ _ _ c.args.ch.now.chains_few
 
 pub overflow_mul-cells : goal.overflow_mul-cells
-overflow_mul-cells c = record { fits = omega (arith, shaped_few _ _ _ _ c.requires.chains_few c.requires.window_range (shaped_turn _ _ _ _ _ (omega arith) c.loop-k.invariant c.coverage-cover.ensures c.stride.ensures c.size-cells.ensures)) }
+overflow_mul-cells c = record {
+  fits = omega (
+    arith,
+    shaped_few _ _ _ _ c.args.ch.now.chains_few c.args.ch.now.window_range
+        (shaped_turn _ _ _ _ _ (omega arith) c.loop-k.invariant c.coverage-cover.ensures c.stride.ensures c.size-cells.ensures),
+  );
+}
 
 pub loop-k-preserved : goal.loop-k-preserved
 loop-k-preserved c = shaped_turn _ _ _ _ _ (omega arith) c.loop-k.invariant c.coverage-cover.ensures c.stride.ensures c.size-cells.ensures

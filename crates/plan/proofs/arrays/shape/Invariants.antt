@@ -3,7 +3,4 @@ use Rattle.plan.proofs.BackLaws.{Shaped}
 use Rattle.plan.proofs.arrays.shape.Given as goal
 
 abbrev pub invariant-loop-k : goal.invariant-loop-k
-invariant-loop-k l = Shaped l.totals l.windows l.counts l.initial.k l.k l.cells l.strides
-
-abbrev pub decreases-loop-k : goal.decreases-loop-k
-decreases-loop-k l = l.k
+invariant-loop-k l = Shaped l.ch.totals l.ch.windows l.counts l.initial.k l.k l.cells l.strides

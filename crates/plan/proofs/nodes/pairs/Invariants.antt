@@ -3,7 +3,4 @@ use Rattle.plan.proofs.BackLaws.{Product}
 use Rattle.plan.proofs.nodes.pairs.Given as goal
 
 abbrev pub invariant-loop-k : goal.invariant-loop-k
-invariant-loop-k l = Product l.totals l.windows l.left l.right l.joined l.initial.k l.k l.product
-
-abbrev pub decreases-loop-k : goal.decreases-loop-k
-decreases-loop-k l = l.k
+invariant-loop-k l = Product l.ch.totals l.ch.windows l.left l.right l.joined l.initial.k l.k l.product

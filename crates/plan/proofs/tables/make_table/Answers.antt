@@ -1,55 +1,44 @@
--- `tables::make_table` meets its contract. The loop's invariant: the table holds the entries of the subtrees that the first i nodes
+-- `tables::make_table` meets its contract. The loop's invariant: the table holds the entries of the subtrees that the nodes so far
 -- leave (`Growing`).
+use mathlib.Core.Path.{refl, sym, subst}
+use Rattle.plan.specs.Table.{Tabled}
+use Rattle.plan.specs.declared.Chains.{Chains}
 use Rattle.plan.specs.Steps.{with_node}
-use Rattle.plan.proofs.GrownLaws.{growing_first, growing_last, count_low, node_low, children_small, cells_fit, pairs_fit, turn_growing}
+use Rattle.plan.proofs.GrownLaws.{Growing, growing_first, growing_last, count_low, node_low, children_small, cells_fit, pairs_fit, turn_growing}
 use native.Mathlib.Omega.{arith}
 use Rattle.plan.proofs.tables.make_table.Goals as goal
 
-pub totals_of-totals-requires : goal.totals_of-totals-requires
-totals_of-totals-requires c = (c.requires.0.centres_range.1, c.requires.0.chains_range.1)
-
-pub loop-i-init : goal.loop-i-init
-loop-i-init c = growing_first _ c.requires.0 _ c.requires.1 c.requires.2 _ c.totals_of-totals.ensures _ c.empty_table-t.ensures
-
-pub offset_bounds-t-r : goal.offset_bounds-t-r
-offset_bounds-t-r c = omega (arith, c.back-r.ensures, count_low c.loop-i.invariant c.loop-i-test.true)
-
-pub bounds-t-r : goal.bounds-t-r
-bounds-t-r c = omega (arith, c.back-r.ensures, count_low c.loop-i.invariant c.loop-i-test.true)
-
-pub offset_bounds-t-l : goal.offset_bounds-t-l
-offset_bounds-t-l c = omega (arith, c.back-l.ensures, c.back-r.ensures, count_low c.loop-i.invariant c.loop-i-test.true)
-
-pub bounds-t-l : goal.bounds-t-l
-bounds-t-l c = omega (arith, c.back-l.ensures, c.back-r.ensures, count_low c.loop-i.invariant c.loop-i-test.true)
-
-pub bounds-nodes-i : goal.bounds-nodes-i
-bounds-nodes-i c = omega (arith, c.requires.0.nodes_long, c.requires.0.count_range, c.loop-i-test.true)
+pub loop-node-init : goal.loop-node-init
+loop-node-init c =
+    subst (λ ch. Growing c.args.m ch c.empty_table-t.result 0)
+    (sym (c.new-ch.ensures c.requires.0.chains_range.1 c.requires.1))
+    (growing_first _ c.requires.0 refl c.requires.2 c.totals_of-totals.ensures c.empty_table-t.ensures)
 
 pub made-e-requires : goal.made-e-requires
-made-e-requires c = (c.loop-i.invariant.few, node_low c.loop-i.invariant c.loop-i-test.true, children_small c.loop-i.invariant c.loop-i-test.true _ _ c.back-r.ensures c.back-l.ensures)
-
-pub offset_bounds-t-n : goal.offset_bounds-t-n
-offset_bounds-t-n c = omega (arith, count_low c.loop-i.invariant c.loop-i-test.true)
+made-e-requires c =
+    let w = c.loop-node.invariant in
+    let h = c.loop-node-test.true in
+    (node_low w h, children_small w h c.children.ensures.left c.children.ensures.right)
 
 pub bounds-t-n : goal.bounds-t-n
-bounds-t-n c = omega (arith, count_low c.loop-i.invariant c.loop-i-test.true)
+bounds-t-n c = omega (arith, count_low c.loop-node.invariant c.loop-node-test.true)
 
-pub overflow_add-t : goal.overflow_add-t
-overflow_add-t c = record { fits = omega (arith, count_low c.loop-i.invariant c.loop-i-test.true) }
+pub overflow_add-t-in-loop-node : goal.overflow_add-t-in-loop-node
+overflow_add-t-in-loop-node c =
+    let w = c.loop-node.invariant in
+    record { fits = cells_fit w c.loop-node-test.true c.children.ensures.left c.children.ensures.right c.made-e.ensures }
 
-pub overflow_add-t-in-loop-i : goal.overflow_add-t-in-loop-i
-overflow_add-t-in-loop-i c = record { fits = cells_fit c.loop-i.invariant c.loop-i-test.true _ _ c.back-r.ensures c.back-l.ensures _ c.made-e.ensures }
+pub overflow_add-t-in-loop-node-2 : goal.overflow_add-t-in-loop-node-2
+overflow_add-t-in-loop-node-2 c =
+    let w = c.loop-node.invariant in
+    record { fits = pairs_fit w c.loop-node-test.true c.children.ensures.left c.children.ensures.right c.made-e.ensures }
 
-pub overflow_add-t-in-loop-i-2 : goal.overflow_add-t-in-loop-i-2
-overflow_add-t-in-loop-i-2 c = record { fits = pairs_fit c.loop-i.invariant c.loop-i-test.true _ _ c.back-r.ensures c.back-l.ensures _ c.made-e.ensures }
-
-pub overflow_add-i : goal.overflow_add-i
-overflow_add-i c = record { fits = omega (arith, c.loop-i-test.true, c.requires.0.count_range) }
-
-pub loop-i-preserved : goal.loop-i-preserved
+pub loop-node-preserved : goal.loop-node-preserved
 unfolding with_node
-loop-i-preserved c = turn_growing c.loop-i.invariant c.loop-i-test.true _ _ c.back-r.ensures c.back-l.ensures _ c.made-e.ensures
+loop-node-preserved c = turn_growing c.loop-node.invariant c.loop-node-test.true c.children.ensures.left c.children.ensures.right c.made-e.ensures
 
 pub returns : goal.returns
-returns c = growing_last c.loop-i.invariant c.loop-i-test.false
+returns c =
+    subst (λ (ch : Chains). Tabled c.args.m ch.windows c.loop-node.t)
+    (c.new-ch.ensures c.requires.0.chains_range.1 c.requires.1)
+    (growing_last c.loop-node.invariant c.loop-node-test.false)

@@ -1,11 +1,7 @@
--- `tables::make_table` meets its contract. The loop's invariant: the table holds the entries of the subtrees that the first i nodes
+-- `tables::make_table` meets its contract. The loop's invariant: the table holds the entries of the subtrees that the nodes so far
 -- leave (`Growing`).
-use Prim.Native.Nat.{◌-◌}
 use Rattle.plan.proofs.GrownLaws.{Growing}
 use Rattle.plan.proofs.tables.make_table.Given as goal
 
-abbrev pub invariant-loop-i : goal.invariant-loop-i
-invariant-loop-i l = Growing l.m l.ch l.t l.i
-
-abbrev pub decreases-loop-i : goal.decreases-loop-i
-decreases-loop-i l = l.m.count - l.i
+abbrev pub invariant-loop-node : goal.invariant-loop-node
+invariant-loop-node l = Growing l.fn.m l.ch l.t l.node-index

@@ -1,9 +1,0 @@
--- `reader::model::first_place`. The choice in `first_place` is by the test that the code makes.
-use borrow.Author.Tests.{eq-eqb, ne_eqb}
-use Rattle.reader.proofs.model.first_place.Goals as goal
-
-pub returns-then-count-eq0 : goal.returns-then-count-eq0
-returns-then-count-eq0 c = rw (eq-eqb _ _ c.if-count-eq0.true)
-
-pub returns : goal.returns
-returns c = rw (ne_eqb _ _ c.if-count-eq0.false)
