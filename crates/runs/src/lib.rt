@@ -38,10 +38,10 @@ fn start_in(run: &Run, area: &mut [u64]) -> Result<(), Refusal>
     if no_room(run.table.cells, area.len()) {
         return Err(Refusal::NoRoom);
     }
-    if some_leaf_too_large(run.model, run.windows, run.table) {
+    if some_leaf_too_large(run) {
         return Err(Refusal::TooLarge);
     }
-    fill(run.model, run.windows, run.table, area);
+    fill(run, area);
     Ok(())
 }
 

@@ -21,10 +21,10 @@ pub fn whole_value(run: &Run, area: &mut [u64]) -> Option<u64>
     ensures long { length area.new ≡ length area.old }
     ensures past { drop (cells_in run.now.model (windows_in run.now.model run.now.windows)) area.new ≡ drop (cells_in run.now.model (windows_in run.now.model run.now.windows)) area.old }
 {
-    if some_leaf_too_large(run.model, run.windows, run.table) {
+    if some_leaf_too_large(run) {
         return None;
     }
-    fill(run.model, run.windows, run.table, area);
+    fill(run, area);
     let all = Quota {
         skip: 0,
         budget: run.table.pairs as usize,

@@ -10,7 +10,7 @@ pub returns-then-some_leaf_too_large : goal.returns-then-some_leaf_too_large
 returns-then-some_leaf_too_large c = let both = left_is (start_large _ _ _ c.requires _ c.no_room.ensures c.if-no_room.false c.some_leaf_too_large.ensures c.if-some_leaf_too_large.true) (refl, refl) in record { answer = both.0; left = both.1 }
 
 pub fill-requires : goal.fill-requires
-fill-requires c = record { prepared = c.requires; room = room _ _ _ c.requires c.args.area.now c.no_room.ensures c.if-no_room.false; none_large = sym c.some_leaf_too_large.ensures ∙ c.if-some_leaf_too_large.false }
+fill-requires c = record { ready = c.requires; room = room _ _ _ c.requires c.args.area.now c.no_room.ensures c.if-no_room.false; none_large = sym c.some_leaf_too_large.ensures ∙ c.if-some_leaf_too_large.false }
 
 pub returns : goal.returns
 returns c = let both = left_is (start_filled _ _ _ c.requires _ c.no_room.ensures c.if-no_room.false c.some_leaf_too_large.ensures c.if-some_leaf_too_large.false) (refl, c.fill.ensures) in record { answer = both.0; left = both.1 }

@@ -11,7 +11,7 @@ pub returns-then-some_leaf_too_large : goal.returns-then-some_leaf_too_large
 returns-then-some_leaf_too_large c = record { value = whole_large _ _ _ c.requires.ready c.args.area.now c.requires.room c.some_leaf_too_large.ensures c.if-some_leaf_too_large.true; long = refl; past = refl }
 
 pub fill-requires : goal.fill-requires
-fill-requires c = record { prepared = c.requires.ready; room = c.requires.room; none_large = sym c.some_leaf_too_large.ensures ∙ c.if-some_leaf_too_large.false }
+fill-requires c = record { ready = c.requires.ready; room = c.requires.room; none_large = sym c.some_leaf_too_large.ensures ∙ c.if-some_leaf_too_large.false }
 
 pub spend-left-requires : goal.spend-left-requires
 spend-left-requires c = record { prepared = c.requires.ready; room = room_filled _ _ _ c.requires.ready _ c.requires.room c.some_leaf_too_large.ensures c.if-some_leaf_too_large.false c.fill.ensures }
