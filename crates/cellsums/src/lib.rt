@@ -33,12 +33,8 @@ pub fn add_pair(area: &[u64], left: Part, right: Part, l: usize, r: usize, acc: 
     requires { Within (length area.now) left right [] l r }
     ensures { result ≡ capped (acc + sum_over (places [] l r) (product area.now left right)) }
 {
-    let l0 = left.from;
-    let l1 = left.to;
-    let r0 = right.from;
-    let r1 = right.to;
-    let x = cell(&area[l0..l1], l);
-    let y = cell(&area[r0..r1], r);
+    let x = cell(&area[left.from..left.to], l);
+    let y = cell(&area[right.from..right.to], r);
     arith::mul_add(acc, x, y)
 }
 
@@ -58,17 +54,8 @@ pub fn add_row(
     let a = row.left;
     let b = row.right;
     let mut sum = acc;
-    let mut j: usize = 0;
-    while j < n {
-        match add_pair(area, left, right, l + j * a, r + (n - 1 - j) * b, sum) {
-            Some(v) => {
-                sum = v;
-            }
-            None => {
-                return None;
-            }
-        }
-        j += 1;
+    for j in 0..n {
+        sum = add_pair(area, left, right, l + j * a, r + (n - 1 - j) * b, sum)?;
     }
     Some(sum)
 }
@@ -91,17 +78,8 @@ pub fn add_two_rows(
     let a = row.left;
     let b = row.right;
     let mut sum = acc;
-    let mut j: usize = 0;
-    while j < n {
-        match add_row(area, left, right, last, l + j * a, r + (n - 1 - j) * b, sum) {
-            Some(v) => {
-                sum = v;
-            }
-            None => {
-                return None;
-            }
-        }
-        j += 1;
+    for j in 0..n {
+        sum = add_row(area, left, right, last, l + j * a, r + (n - 1 - j) * b, sum)?;
     }
     Some(sum)
 }
@@ -143,18 +121,16 @@ pub fn add_rows(
     let a = row.left;
     let b = row.right;
     let mut sum = acc;
-    let mut j: usize = 0;
-    while j < n {
-        let k = n - 1 - j;
-        match add_rows(area, left, right, &rows[3..], l + j * a, r + k * b, sum) {
-            Some(v) => {
-                sum = v;
-            }
-            None => {
-                return None;
-            }
-        }
-        j += 1;
+    for j in 0..n {
+        sum = add_rows(
+            area,
+            left,
+            right,
+            &rows[3..],
+            l + j * a,
+            r + (n - 1 - j) * b,
+            sum,
+        )?;
     }
     Some(sum)
 }

@@ -36,8 +36,8 @@ overflow_mul-j t c = omega (arith, left_low c.loop-j.invariant.2 _ c.loop-j-test
 pub overflow_add-l : goal.overflow_add-l
 overflow_add-l t c = omega (arith, left_low c.loop-j.invariant.2 _ c.loop-j-test.true)
 
-pub overflow_mul-k : goal.overflow_mul-k
-overflow_mul-k t c = omega (arith, right_low c.loop-j.invariant.2 _ c.loop-j-test.true)
+pub overflow_mul-n : goal.overflow_mul-n
+overflow_mul-n t c = omega (arith, right_low c.loop-j.invariant.2 _ c.loop-j-test.true)
 
 pub overflow_add-r : goal.overflow_add-r
 overflow_add-r t c = omega (arith, right_low c.loop-j.invariant.2 _ c.loop-j-test.true)
@@ -47,13 +47,13 @@ add_rows-requires t c =
     let rows = c.args.rows.now in
     (omega (arith, c.loop-j.invariant.0.0, length-take (length rows - 3) (drop 3 rows), length-drop 3 rows), within_turn c.loop-j.invariant.2 _ c.loop-j-test.true)
 
-pub returns-in-None : goal.returns-in-None
-returns-in-None t c = sum_stops _ _ _ _ _ _ _ _ _ _ c.loop-j.invariant.3 c.loop-j-test.true (sym c.add_rows.ensures ∙ c.in-None.is) ∙ sum_as _ _ _ _ c.loop-j.invariant.1
+pub returns-in_err-sum : goal.returns-in_err-sum
+returns-in_err-sum t c = c.from_residual.ensures ∙ sum_stops _ _ _ _ _ _ _ _ _ _ c.loop-j.invariant.3 c.loop-j-test.true (sym c.add_rows.ensures ∙ c.in_err-sum.was) ∙ sum_as _ _ _ _ c.loop-j.invariant.1
 
 pub loop-j-preserved : goal.loop-j-preserved
 loop-j-preserved t c =
     let i = c.loop-j.invariant in
-    (i.0, i.1, i.2, sum_again _ _ _ _ _ _ _ _ _ _ i.3 c.loop-j-test.true _ (sym c.add_rows.ensures ∙ c.in-Some.is))
+    (i.0, i.1, i.2, sum_again _ _ _ _ _ _ _ _ _ _ i.3 c.loop-j-test.true _ (sym c.add_rows.ensures ∙ c.in_ok-sum.was))
 
 pub returns : goal.returns
 returns t c = sum_ends _ _ _ _ _ _ _ _ _ _ c.loop-j.invariant.3 c.loop-j-test.false ∙ sum_as _ _ _ _ c.loop-j.invariant.1

@@ -15,6 +15,3 @@ invariant-loop-j l = ((3 ≤ length l.rows) × (l.n < 2 ^ 64))
     × (l.rows ≡ l.n ∷ l.a ∷ l.b ∷ take (length l.rows - 3) (drop 3 l.rows))
     × Within (length l.area) l.left l.right (l.n ∷ l.a ∷ l.b ∷ take (length l.rows - 3) (drop 3 l.rows)) l.l l.r
     × Summed l.n l.a l.b (take (length l.rows - 3) (drop 3 l.rows)) l.l l.r (product l.area l.left l.right) l.acc l.sum l.j
-
-abbrev pub decreases-loop-j : goal.decreases-loop-j
-decreases-loop-j l = l.n - l.j

@@ -29,11 +29,11 @@ overflow_add-r c = omega (arith, right_low c.requires _ c.loop-j-test.true)
 pub add_row-requires : goal.add_row-requires
 add_row-requires c = within_turn c.requires _ c.loop-j-test.true
 
-pub returns-in-None : goal.returns-in-None
-returns-in-None c = sum_stops _ _ _ _ _ _ _ _ _ _ c.loop-j.invariant c.loop-j-test.true (sym c.add_row.ensures ∙ c.in-None.is)
+pub returns-in_err-sum : goal.returns-in_err-sum
+returns-in_err-sum c = c.from_residual.ensures ∙ sum_stops _ _ _ _ _ _ _ _ _ _ c.loop-j.invariant c.loop-j-test.true (sym c.add_row.ensures ∙ c.in_err-sum.was)
 
 pub loop-j-preserved : goal.loop-j-preserved
-loop-j-preserved c = sum_again _ _ _ _ _ _ _ _ _ _ c.loop-j.invariant c.loop-j-test.true _ (sym c.add_row.ensures ∙ c.in-Some.is)
+loop-j-preserved c = sum_again _ _ _ _ _ _ _ _ _ _ c.loop-j.invariant c.loop-j-test.true _ (sym c.add_row.ensures ∙ c.in_ok-sum.was)
 
 pub returns : goal.returns
 returns c = sum_ends _ _ _ _ _ _ _ _ _ _ c.loop-j.invariant c.loop-j-test.false

@@ -7,6 +7,3 @@ use Rattle.cellsums.proofs.add_two_rows.Given as goal
 
 abbrev pub invariant-loop-j : goal.invariant-loop-j
 invariant-loop-j l = Summed l.n l.a l.b (row_then l.last []) l.l l.r (product l.area l.left l.right) l.acc l.sum l.j
-
-abbrev pub decreases-loop-j : goal.decreases-loop-j
-decreases-loop-j l = l.n - l.j
