@@ -2,10 +2,10 @@
 // child's cells as a part of it, one child at a time.
 #![tactic(auto)]
 
-ghost use Rattle.std.specs.Prelude.{◌≡◌, [], ◌+◌, ◌≤◌, ◌<◌, length, get_or};
+ghost use Rattle.std.specs.Prelude.{◌≡◌, [], ◌∷◌, ◌+◌, ◌≤◌, ◌<◌, length, get_or};
 ghost use Rattle.sums.specs.Sums.{sum_over};
 ghost use Rattle.arith.specs.Capped.{capped};
-ghost use Rattle.cellsums.specs.Places.{places, row_then, row_at, product, Within};
+ghost use Rattle.cellsums.specs.Places.{places, product, Within};
 
 // A node's cells in the area.
 #[derive(Clone, Copy)]
@@ -47,15 +47,13 @@ pub fn add_row(
     r: usize,
     acc: u64,
 ) -> Option<u64>
-    requires { Within (length area.now) left right (row_then row []) l r }
-    ensures { result ≡ capped (acc + sum_over (places (row_then row []) l r) (product area.now left right)) }
+    requires { Within (length area.now) left right (row ∷ []) l r }
+    ensures { result ≡ capped (acc + sum_over (places (row ∷ []) l r) (product area.now left right)) }
 {
-    let n = row.count;
-    let a = row.left;
-    let b = row.right;
     let mut sum = acc;
-    for j in 0..n {
-        sum = add_pair(area, left, right, l + j * a, r + (n - 1 - j) * b, sum)?;
+    for j in 0..row.count {
+        let k = row.count - 1 - j;
+        sum = add_pair(area, left, right, l + j * row.left, r + k * row.right, sum)?;
     }
     Some(sum)
 }
@@ -71,37 +69,23 @@ pub fn add_two_rows(
     r: usize,
     acc: u64,
 ) -> Option<u64>
-    requires { Within (length area.now) left right (row_then row (row_then last [])) l r }
-    ensures { result ≡ capped (acc + sum_over (places (row_then row (row_then last [])) l r) (product area.now left right)) }
+    requires { Within (length area.now) left right (row ∷ last ∷ []) l r }
+    ensures { result ≡ capped (acc + sum_over (places (row ∷ last ∷ []) l r) (product area.now left right)) }
 {
-    let n = row.count;
-    let a = row.left;
-    let b = row.right;
     let mut sum = acc;
-    for j in 0..n {
-        sum = add_row(area, left, right, last, l + j * a, r + (n - 1 - j) * b, sum)?;
+    for j in 0..row.count {
+        let k = row.count - 1 - j;
+        sum = add_row(area, left, right, last, l + j * row.left, r + k * row.right, sum)?;
     }
     Some(sum)
 }
 
-// The row at a place of a flat list.
-fn row_at(rows: &[usize], at: usize) -> Row
-    requires { at + 3 ≤ length rows.now }
-    ensures { result ≡ row_at rows.now at }
-{
-    Row {
-        count: rows[at],
-        left: rows[at + 1],
-        right: rows[at + 2],
-    }
-}
-
-// Any number of rows, flat, three numbers a row.
+// Any number of rows.
 pub fn add_rows(
     area: &[u64],
     left: Part,
     right: Part,
-    rows: &[usize],
+    rows: &[Row],
     l: usize,
     r: usize,
     acc: u64,
@@ -109,28 +93,16 @@ pub fn add_rows(
     requires { Within (length area.now) left right rows.now l r }
     ensures { result ≡ capped (acc + sum_over (places rows.now l r) (product area.now left right)) }
 {
-    if rows.len() < 3 {
+    let [row, others @ ..] = rows else {
         return add_pair(area, left, right, l, r, acc);
+    };
+    if let [last] = others {
+        return add_two_rows(area, left, right, *row, *last, l, r, acc);
     }
-    let row = row_at(rows, 0);
-    if rows.len() == 6 {
-        let last = row_at(rows, 3);
-        return add_two_rows(area, left, right, row, last, l, r, acc);
-    }
-    let n = row.count;
-    let a = row.left;
-    let b = row.right;
     let mut sum = acc;
-    for j in 0..n {
-        sum = add_rows(
-            area,
-            left,
-            right,
-            &rows[3..],
-            l + j * a,
-            r + (n - 1 - j) * b,
-            sum,
-        )?;
+    for j in 0..row.count {
+        let k = row.count - 1 - j;
+        sum = add_rows(area, left, right, others, l + j * row.left, r + k * row.right, sum)?;
     }
     Some(sum)
 }
@@ -140,7 +112,7 @@ pub fn cell_sum(
     area: &[u64],
     left: Part,
     right: Part,
-    rows: &[usize],
+    rows: &[Row],
     l: usize,
     r: usize,
     acc: u64,
@@ -148,11 +120,9 @@ pub fn cell_sum(
     requires { Within (length area.now) left right rows.now l r }
     ensures { result ≡ capped (acc + sum_over (places rows.now l r) (product area.now left right)) }
 {
-    if rows.len() < 3 {
-        return add_pair(area, left, right, l, r, acc);
+    match rows {
+        [] => add_pair(area, left, right, l, r, acc),
+        [row] => add_row(area, left, right, *row, l, r, acc),
+        _ => add_rows(area, left, right, rows, l, r, acc),
     }
-    if rows.len() == 3 {
-        return add_row(area, left, right, row_at(rows, 0), l, r, acc);
-    }
-    add_rows(area, left, right, rows, l, r, acc)
 }
