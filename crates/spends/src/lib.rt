@@ -83,15 +83,16 @@ fn table_pairs(m: Model, windows: [usize; 8], t: Table, area: &mut [u64], q: Quo
         windows,
     };
     let mut e = q;
-    let mut i = 0;
-    while i < t.count {
+    for i in 0..t.count {
         let r = back(i, 1);
         let right = t.nodes[r];
         let l = back(r, right.span);
         let left = t.nodes[l];
         let own = t.nodes[i];
         e = node_pairs(ch, left, right, own, area, e);
-        i = joins::next(i, t.count, e.over, e.skip, e.budget);
+        if e.ended() {
+            break;
+        }
     }
     e
 }

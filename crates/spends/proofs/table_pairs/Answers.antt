@@ -1,10 +1,8 @@
 -- `table_pairs` meets its contract: after i nodes the walk has gone over the pairs of the first i.
-use mathlib.Core.Path.{refl}
+use mathlib.Core.Path.{refl, sym, ◌∙◌}
 use native.Mathlib.Omega.{arith}
-use borrow.Author.Rules.{rules}
-use Rattle.joins.proofs.TurnLaws.{turn_less}
 use Rattle.plan.proofs.PreparedLaws.{count_few}
-use Rattle.spends.proofs.TableLaws.{walked_first, walked_turn, walked_next, walked_last, node_in}
+use Rattle.spends.proofs.TableLaws.{walked_first, walked_turn, walked_last, walked_left, node_in}
 use Rattle.spends.proofs.table_pairs.Goals as goal
 
 pub loop-i-init : goal.loop-i-init
@@ -31,17 +29,12 @@ bounds-t-i c = omega (arith, c.loop-i-test.true, count_few c.requires.prepared)
 pub node_pairs-e-requires : goal.node_pairs-e-requires
 node_pairs-e-requires c = (node_in c.requires.prepared _ c.loop-i-test.true _ _ c.back-r.ensures c.back-l.ensures _ _ c.loop-i.invariant.long c.requires.room).0
 
-pub next-i-requires : goal.next-i-requires
-next-i-requires c = c.loop-i-test.true
-
-pub loop-i-smaller : goal.loop-i-smaller
-loop-i-smaller c = turn_less _ _ _ _ c.loop-i-test.true c.next-i.ensures
-
 pub loop-i-preserved : goal.loop-i-preserved
-loop-i-preserved c = walked_next (walked_turn c.loop-i.invariant c.loop-i-test.true _ _ c.back-r.ensures c.back-l.ensures _ _ (search rules) c.node_pairs-e.ensures) _ _ refl c.loop-i-test.true c.next-i.ensures
+loop-i-preserved c = walked_turn c.loop-i.invariant c.loop-i-test.true _ _ c.back-r.ensures c.back-l.ensures _ _ c.node_pairs-e.auto.area c.node_pairs-e.ensures
 
-pub shape_of-area : goal.shape_of-area
-shape_of-area c = c.loop-i.invariant.long
+pub returns-after-loop-i : goal.returns-after-loop-i
+returns-after-loop-i c = walked_last c.loop-i.invariant _ _ c.requires.prepared refl c.requires.room c.loop-i-test.false
 
-pub returns : goal.returns
-returns c = walked_last c.loop-i.invariant _ _ c.requires.prepared refl c.requires.room c.loop-i-test.false
+pub returns-then-ended : goal.returns-then-ended
+returns-then-ended c =
+    walked_left (walked_turn c.loop-i.invariant c.loop-i-test.true _ _ c.back-r.ensures c.back-l.ensures _ _ c.node_pairs-e.auto.area c.node_pairs-e.ensures) _ _ c.requires.prepared refl c.requires.room (sym c.ended.ensures ∙ c.if-ended.true)
