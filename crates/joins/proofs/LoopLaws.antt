@@ -51,6 +51,11 @@ module _ (size : ℕ) (join : Join) (one : Loop) (loops : List Loop) (rows : Lis
     turn_sound es er ea = rw (es, er, ea) (s.1 i h).1
 
 -- where no loop is left it is one cell
+pub last_again : (join : Join) (one : Loop) (rows : List Row) (l r t : ℕ) {s₀ s u : State} {i : ℕ} → Walked (loop_turn join one [] rows l r t) one.count s₀ s i → i < one.count → {rows' : List Row} → rows' ≡ with_count rows one.row (i + 1) → (count : ℕ) {at : Turn} → at ≡ turn_at one l r t count i
+    → u ≡ walk (cell_pairs join rows' at.left at.right at.own) s → Walked (loop_turn join one [] rows l r t) one.count s₀ u (i + 1)
+unfolding loop_pairs
+last_again join one rows l r t w h er count ea e = loop_again join one [] rows l r t w h er count ea e
+
 pub last_at : (size : ℕ) (join : Join) (loops : List Loop) (rows : List Row) (l r t count : ℕ) → length loops < 1 → Sound size join loops rows l r t count → At size join rows l r t count
 unfolding Sound
 last_at size join [] rows l r t count h s = s

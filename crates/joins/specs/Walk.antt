@@ -4,6 +4,9 @@ use Rattle.network.specs.Pairs.{Pair}
 use Rattle.network.specs.Run.{sum_at, add}
 use Rattle.joins.specs.declared.Quota.{Quota}
 
+abbrev pub quota : ℕ → ℕ → Bool → Quota
+quota skip budget over = record { skip = skip; budget = budget; over = over }
+
 pub record State : Type 0 where
   pub skip : ℕ
   pub budget : ℕ

@@ -1,17 +1,25 @@
 // The walk over a join's pairs, cell by cell: what is skipped is counted, and what the budget has is added.
-ghost use Rattle.std.specs.Prelude.{◌≡◌, [], ◌<◌, length, set};
+ghost use Rattle.std.specs.Prelude.{◌≡◌, [], ◌∷◌, ◌<◌, length, set};
 ghost use Rattle.cellsums.specs.Places.{places};
-ghost use Rattle.joins.specs.Walk.{state, walk};
+ghost use Rattle.joins.specs.Walk.{state, walk, quota};
 ghost use Rattle.joins.specs.Loops.{cell_pairs, loop_pairs, Inside, turn_at, with_count, HasRow, Numbers, Sound};
 
 use crate::{Join, Loop, Quota, Turn};
-use cellsums::Row;
+use cellsums::{Part, Row};
 
 fn put(own: &mut [u64], i: usize, v: u64)
     requires { i < length own.old }
     ensures { own.new ≡ set own.old i v }
 {
     own[i] = v;
+}
+
+// What is left to skip and to add. Built here alone, and field by field: copies of a whole quota carry its padding through the loop over the
+// cells.
+fn remaining(skip: usize, budget: usize, over: bool) -> Quota
+    ensures { result ≡ quota skip budget over }
+{
+    Quota { skip, budget, over }
 }
 
 // One pair: the children lent for reading, then the join's own cells lent on to be written.
@@ -23,10 +31,7 @@ fn walk_pair(area: &mut [u64], join: Join, l: usize, r: usize, t: usize, q: Quot
         return q;
     }
     if 0 < q.skip {
-        return Quota {
-            skip: q.skip - 1,
-            ..q
-        };
+        return remaining(q.skip - 1, q.budget, false);
     }
     if q.budget == 0 {
         return q;
@@ -35,12 +40,9 @@ fn walk_pair(area: &mut [u64], join: Join, l: usize, r: usize, t: usize, q: Quot
     match cellsums::add_pair(area, join.left, join.right, l, r, x) {
         Some(v) => {
             put(&mut area[join.own.from..join.own.to], t, v);
-            Quota {
-                budget: q.budget - 1,
-                ..q
-            }
+            remaining(0, q.budget - 1, false)
         }
-        None => Quota { over: true, ..q },
+        None => remaining(0, q.budget, true),
     }
 }
 
@@ -71,8 +73,34 @@ fn walk_rows(
     e
 }
 
+// The same as walk_rows, over copies: what a call takes by address stays in memory, and the loop over the cells is to keep its own in
+// registers.
+fn one_by_one(area: &mut [u64], join: Join, rows: &[Row], at: Turn, q: Quota) -> Quota
+    requires { Inside (length area.old) join rows.now at.left at.right at.own }
+    ensures { state result area.new ≡ walk (cell_pairs join rows.now at.left at.right at.own) (state q area.old) }
+{
+    let copy = remaining(q.skip, q.budget, q.over);
+    let copied = Join {
+        left: Part {
+            from: join.left.from,
+            to: join.left.to,
+        },
+        right: Part {
+            from: join.right.from,
+            to: join.right.to,
+        },
+        own: Part {
+            from: join.own.from,
+            to: join.own.to,
+        },
+    };
+    let e = walk_rows(area, copied, rows, at.left, at.right, at.own, copy);
+    remaining(e.skip, e.budget, e.over)
+}
+
 // The pairs of a cell: passed over by their number, or summed at once; one by one where skip or budget ends among them or a sum does not
 // fit.
+#[inline(always)]
 fn walk_cell(area: &mut [u64], join: Join, rows: &[Row], at: Turn, q: Quota) -> Quota
     requires inside { Inside (length area.old) join rows.now at.left at.right at.own }
     requires counted { at.count ≡ length (places rows.now at.left at.right) }
@@ -82,27 +110,21 @@ fn walk_cell(area: &mut [u64], join: Join, rows: &[Row], at: Turn, q: Quota) -> 
         return q;
     }
     if at.count <= q.skip {
-        return Quota {
-            skip: q.skip - at.count,
-            ..q
-        };
+        return remaining(q.skip - at.count, q.budget, false);
     }
     if 0 < q.skip {
-        return walk_rows(area, join, rows, at.left, at.right, at.own, q);
+        return one_by_one(area, join, rows, at, q);
     }
     if q.budget < at.count {
-        return walk_rows(area, join, rows, at.left, at.right, at.own, q);
+        return one_by_one(area, join, rows, at, q);
     }
     let x = cellsums::cell(&area[join.own.from..join.own.to], at.own);
     match cellsums::cell_sum(area, join.left, join.right, rows, at.left, at.right, x) {
         Some(v) => {
             put(&mut area[join.own.from..join.own.to], at.own, v);
-            Quota {
-                budget: q.budget - at.count,
-                ..q
-            }
+            remaining(0, q.budget - at.count, false)
         }
-        None => walk_rows(area, join, rows, at.left, at.right, at.own, q),
+        None => one_by_one(area, join, rows, at, q),
     }
 }
 
@@ -147,6 +169,31 @@ impl Loop {
     }
 }
 
+// The last loop: one cell a turn. Its row's count is written for each i, and restored.
+fn walk_last(
+    area: &mut [u64],
+    join: Join,
+    last: Loop,
+    rows: &mut [Row],
+    at: Turn,
+    q: Quota,
+) -> Quota
+    requires { Sound (length area.old) join (last ∷ []) rows.old at.left at.right at.own at.count }
+    ensures { (state result area.new ≡ walk (loop_pairs join (last ∷ []) rows.old at.left at.right at.own) (state q area.old)) × (rows.new ≡ rows.old) }
+{
+    let old = count_in(rows, last.row);
+    let mut e = q;
+    for i in 0..last.count {
+        set_count(rows, last.row, i + 1);
+        e = walk_cell(area, join, rows, last.turn(at, i), e);
+        if e.ended() {
+            break;
+        }
+    }
+    set_count(rows, last.row, old);
+    e
+}
+
 // A loop for each chain that is partial at the result. Its row's count is written for each i, and restored.
 pub fn walk_loops(
     area: &mut [u64],
@@ -162,6 +209,9 @@ pub fn walk_loops(
     let [one, others @ ..] = loops else {
         return walk_cell(area, join, rows, at, q);
     };
+    if others.is_empty() {
+        return walk_last(area, join, *one, rows, at, q);
+    }
     let old = count_in(rows, one.row);
     let mut e = q;
     for i in 0..one.count {
