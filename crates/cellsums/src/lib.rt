@@ -38,6 +38,7 @@ pub fn add_pair(area: &[u64], left: Part, right: Part, l: usize, r: usize, acc: 
     arith::mul_add(acc, x, y)
 }
 
+#[inline(always)]
 pub fn add_row(
     area: &[u64],
     left: Part,
@@ -108,6 +109,7 @@ pub fn add_rows(
 }
 
 // The same, with no call where a cell has one shared chain or none.
+#[inline(always)]
 pub fn cell_sum(
     area: &[u64],
     left: Part,

@@ -105,7 +105,7 @@ module _ (n : ℕ) (join : Join) (rows : List Row) (l r t : ℕ) (A : List ℕ) 
       (omega (arith, i.left_before), omega (arith, i.right_before), (λ z. sym (part_at A join.left.from join.left.to p.0 a) z * sym (part_at A join.right.from join.right.to p.1 b) z)))
       (places_reach rows l r)
 
-  pub cell_past : count ≤ q.skip → record { skip = q.skip - count; budget = q.budget; over = false; area = A } ≡ walk (cell_pairs join rows l r t) (state q A)
+  pub cell_past : count ≤ q.skip → record { skip = q.skip - count; budget = q.budget; over = q.over; area = A } ≡ walk (cell_pairs join rows l r t) (state q A)
   unfolding cell_pairs
   cell_past k =
       let e : length (map (pair_at join t) (places rows l r)) ≡ count = length-map (places rows l r) (pair_at join t) ∙ sym counted in
@@ -113,7 +113,7 @@ module _ (n : ℕ) (join : Join) (rows : List Row) (l r t : ℕ) (A : List ℕ) 
 
   pub cell_added : q.skip ≤ 0 → count ≤ q.budget → (x v : ℕ) (own : List ℕ) → x ≡ get_or (cells_in A join.own) t 0 → own ≡ set (cells_in A join.own) t v
       → capped (x + sum_over (places rows l r) (product A join.left join.right)) ≡ Some v
-      → record { skip = 0; budget = q.budget - count; over = false; area = put_mid join.own.from (join.own.to - join.own.from) A own } ≡ walk (cell_pairs join rows l r t) (state q A)
+      → record { skip = q.skip; budget = q.budget - count; over = q.over; area = put_mid join.own.from (join.own.to - join.own.from) A own } ≡ walk (cell_pairs join rows l r t) (state q A)
   unfolding cell_pairs
   cell_added k b x v own ex eo e =
       let told = exact_says e in

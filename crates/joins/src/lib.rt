@@ -46,13 +46,12 @@ pub struct Quota {
     pub over: bool,
 }
 
-impl Quota {
-    // No pair changes the walk any more: one has ended it, or none is left to skip and the budget is spent.
-    pub fn ended(self) -> bool
-        ensures { result ≡ ended self.over self.skip self.budget }
-    {
-        self.over || self.skip == 0 && self.budget == 0
-    }
+// No pair changes the walk any more: one has ended it, or none is left to skip and the budget is spent. The quota comes field by field, to
+// stay in registers.
+pub fn ended(over: bool, skip: usize, budget: usize) -> bool
+    ensures { result ≡ ended over skip budget }
+{
+    over || skip == 0 && budget == 0
 }
 
 // How much of the arrays of loops and rows is used, and how many pairs the first result cell has.

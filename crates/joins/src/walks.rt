@@ -1,10 +1,10 @@
 // The walk over a join's pairs, cell by cell: what is skipped is counted, and what the budget has is added.
 ghost use Rattle.std.specs.Prelude.{◌≡◌, [], ◌∷◌, ◌<◌, length, set};
 ghost use Rattle.cellsums.specs.Places.{places};
-ghost use Rattle.joins.specs.Walk.{state, walk, quota};
+ghost use Rattle.joins.specs.Walk.{state, walk};
 ghost use Rattle.joins.specs.Loops.{cell_pairs, loop_pairs, Inside, turn_at, with_count, HasRow, Numbers, Sound};
 
-use crate::{Join, Loop, Quota, Turn};
+use crate::{Join, Loop, Quota, Turn, ended};
 use cellsums::{Part, Row};
 
 fn put(own: &mut [u64], i: usize, v: u64)
@@ -12,14 +12,6 @@ fn put(own: &mut [u64], i: usize, v: u64)
     ensures { own.new ≡ set own.old i v }
 {
     own[i] = v;
-}
-
-// What is left to skip and to add. Built here alone, and field by field: copies of a whole quota carry its padding through the loop over the
-// cells.
-fn remaining(skip: usize, budget: usize, over: bool) -> Quota
-    ensures { result ≡ quota skip budget over }
-{
-    Quota { skip, budget, over }
 }
 
 // One pair: the children lent for reading, then the join's own cells lent on to be written.
@@ -31,7 +23,10 @@ fn walk_pair(area: &mut [u64], join: Join, l: usize, r: usize, t: usize, q: Quot
         return q;
     }
     if 0 < q.skip {
-        return remaining(q.skip - 1, q.budget, false);
+        return Quota {
+            skip: q.skip - 1,
+            ..q
+        };
     }
     if q.budget == 0 {
         return q;
@@ -40,9 +35,12 @@ fn walk_pair(area: &mut [u64], join: Join, l: usize, r: usize, t: usize, q: Quot
     match cellsums::add_pair(area, join.left, join.right, l, r, x) {
         Some(v) => {
             put(&mut area[join.own.from..join.own.to], t, v);
-            remaining(0, q.budget - 1, false)
+            Quota {
+                budget: q.budget - 1,
+                ..q
+            }
         }
-        None => remaining(0, q.budget, true),
+        None => Quota { over: true, ..q },
     }
 }
 
@@ -66,11 +64,22 @@ fn walk_rows(
     for j in 0..row.count {
         let k = row.count - 1 - j;
         e = walk_rows(area, join, others, l + j * row.left, r + k * row.right, t, e);
-        if e.ended() {
+        if ended(e.over, e.skip, e.budget) {
             break;
         }
     }
     e
+}
+
+// A quota anew, field by field: a copy of the whole takes the struct's padding along, through memory.
+fn copied(q: Quota) -> Quota
+    ensures { result ≡ q }
+{
+    Quota {
+        skip: q.skip,
+        budget: q.budget,
+        over: q.over,
+    }
 }
 
 // The same as walk_rows, over copies: what a call takes by address stays in memory, and the loop over the cells is to keep its own in
@@ -79,8 +88,7 @@ fn one_by_one(area: &mut [u64], join: Join, rows: &[Row], at: Turn, q: Quota) ->
     requires { Inside (length area.old) join rows.now at.left at.right at.own }
     ensures { state result area.new ≡ walk (cell_pairs join rows.now at.left at.right at.own) (state q area.old) }
 {
-    let copy = remaining(q.skip, q.budget, q.over);
-    let copied = Join {
+    let parts = Join {
         left: Part {
             from: join.left.from,
             to: join.left.to,
@@ -94,8 +102,7 @@ fn one_by_one(area: &mut [u64], join: Join, rows: &[Row], at: Turn, q: Quota) ->
             to: join.own.to,
         },
     };
-    let e = walk_rows(area, copied, rows, at.left, at.right, at.own, copy);
-    remaining(e.skip, e.budget, e.over)
+    copied(walk_rows(area, parts, rows, at.left, at.right, at.own, copied(q)))
 }
 
 // The pairs of a cell: passed over by their number, or summed at once; one by one where skip or budget ends among them or a sum does not
@@ -110,7 +117,10 @@ fn walk_cell(area: &mut [u64], join: Join, rows: &[Row], at: Turn, q: Quota) -> 
         return q;
     }
     if at.count <= q.skip {
-        return remaining(q.skip - at.count, q.budget, false);
+        return Quota {
+            skip: q.skip - at.count,
+            ..q
+        };
     }
     if 0 < q.skip {
         return one_by_one(area, join, rows, at, q);
@@ -122,10 +132,23 @@ fn walk_cell(area: &mut [u64], join: Join, rows: &[Row], at: Turn, q: Quota) -> 
     match cellsums::cell_sum(area, join.left, join.right, rows, at.left, at.right, x) {
         Some(v) => {
             put(&mut area[join.own.from..join.own.to], at.own, v);
-            remaining(0, q.budget - at.count, false)
+            Quota {
+                budget: q.budget - at.count,
+                ..q
+            }
         }
         None => one_by_one(area, join, rows, at, q),
     }
+}
+
+// The cell of a join that has no loop. No call of walk_cell but the one in the loop over cells is to be inlined there.
+#[inline(never)]
+fn walk_alone(area: &mut [u64], join: Join, rows: &[Row], at: Turn, q: Quota) -> Quota
+    requires inside { Inside (length area.old) join rows.now at.left at.right at.own }
+    requires counted { at.count ≡ length (places rows.now at.left at.right) }
+    ensures { state result area.new ≡ walk (cell_pairs join rows.now at.left at.right at.own) (state q area.old) }
+{
+    walk_cell(area, join, rows, at, q)
 }
 
 // The pairs that a loop's row has; 0 where it has none.
@@ -186,12 +209,12 @@ fn walk_last(
     for i in 0..last.count {
         set_count(rows, last.row, i + 1);
         e = walk_cell(area, join, rows, last.turn(at, i), e);
-        if e.ended() {
+        if ended(e.over, e.skip, e.budget) {
             break;
         }
     }
     set_count(rows, last.row, old);
-    e
+    copied(e)
 }
 
 // A loop for each chain that is partial at the result. Its row's count is written for each i, and restored.
@@ -207,7 +230,7 @@ pub fn walk_loops(
     ensures { (state result area.new ≡ walk (loop_pairs join loops.now rows.old at.left at.right at.own) (state q area.old)) × (rows.new ≡ rows.old) }
 {
     let [one, others @ ..] = loops else {
-        return walk_cell(area, join, rows, at, q);
+        return walk_alone(area, join, rows, at, q);
     };
     if others.is_empty() {
         return walk_last(area, join, *one, rows, at, q);
@@ -217,7 +240,7 @@ pub fn walk_loops(
     for i in 0..one.count {
         set_count(rows, one.row, i + 1);
         e = walk_loops(area, join, others, rows, one.turn(at, i), e);
-        if e.ended() {
+        if ended(e.over, e.skip, e.budget) {
             break;
         }
     }

@@ -90,7 +90,7 @@ fn table_pairs(m: Model, windows: [usize; 8], t: Table, area: &mut [u64], q: Quo
         let left = t.nodes[l];
         let own = t.nodes[i];
         e = node_pairs(ch, left, right, own, area, e);
-        if e.ended() {
+        if joins::ended(e.over, e.skip, e.budget) {
             break;
         }
     }

@@ -12,14 +12,14 @@ use Rattle.joins.proofs.LoopLaws.{loop_again, loops_as, row_in, turn_numbers, tu
 use Rattle.joins.proofs.walks.+walk_loops.Goals as goal
 use Rattle.joins.proofs.walks.+walk_loops.Goals.{else-loop-i-test, then-loop-i-test+then-ended}
 
-pub walk_cell-requires-clause-inside : goal.walk_cell-requires-clause-inside
-walk_cell-requires-clause-inside t c = (last_at _ _ _ _ _ _ _ _ c.in_default.len_below c.requires).inside
+pub walk_alone-requires-clause-inside : goal.walk_alone-requires-clause-inside
+walk_alone-requires-clause-inside t c = (last_at _ _ _ _ _ _ _ _ c.in_default.len_below c.requires).inside
 
-pub walk_cell-requires-clause-counted : goal.walk_cell-requires-clause-counted
-walk_cell-requires-clause-counted t c = (last_at _ _ _ _ _ _ _ _ c.in_default.len_below c.requires).counted
+pub walk_alone-requires-clause-counted : goal.walk_alone-requires-clause-counted
+walk_alone-requires-clause-counted t c = (last_at _ _ _ _ _ _ _ _ c.in_default.len_below c.requires).counted
 
 pub returns-in_default : goal.returns-in_default
-returns-in_default t c = (c.walk_cell.ensures ∙ last_pairs _ _ _ _ _ _ _ c.in_default.len_below, refl)
+returns-in_default t c = (c.walk_alone.ensures ∙ last_pairs _ _ _ _ _ _ _ c.in_default.len_below, refl)
 
 pub count_in-old-requires : goal.count_in-old-requires
 count_in-old-requires t c = row_in _ _ _ _ _ _ _ _ _ (sound_as _ _ _ _ _ _ _ (first_rest c.args.loops.now _ c.in-len1-up.len_at_least) c.requires)

@@ -44,11 +44,11 @@ returns c =
     let i = c.loop-i.invariant in
     elim c.loop-i-test.branch [
       else-loop-i-test w ↦ (
-        (λ j. state (w.e-is j) (w.area-is j)) ∙ loops_as _ _ _ _ _ _ _ _ _ _ refl (walk_ends i.walked w.loop-i-test.false),
+        (λ j. state ((c.copied.ensures ∙ w.e-is) j) (w.area-is j)) ∙ loops_as _ _ _ _ _ _ _ _ _ _ refl (walk_ends i.walked w.loop-i-test.false),
         c.set_count-2.ensures ∙ rw w.rows-is (i.rows_are _) ∙ i.old_is,
       )
     | then-loop-i-test+then-ended w ↦ (
-        (λ j. state (w.e-is j) (w.area-is j))
+        (λ j. state ((c.copied.ensures ∙ w.e-is) j) (w.area-is j))
         ∙ loops_as _ _ _ _ _ _ _ _ _ _ refl
         (walk_left (last_again _ _ _ _ _ _ i.walked w.loop-i-test.true (w.set_count.ensures ∙ i.rows_are _) _ w.turn.ensures w.walk_cell-e.ensures) (sym w.ended.ensures ∙ w.if-ended.true)),
         c.set_count-2.ensures ∙ rw w.rows-is (write_again _ c.loop-i.rows _ _ _ i.rows_are w.set_count.ensures _) ∙ i.old_is,
