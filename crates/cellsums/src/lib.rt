@@ -38,6 +38,7 @@ pub fn add_pair(area: &[u64], left: Part, right: Part, l: usize, r: usize, acc: 
     arith::mul_add(acc, x, y)
 }
 
+// Inlined into add_two_rows, where most of the work is done: with a call for each row dense models took a sixth longer.
 #[inline(always)]
 pub fn add_row(
     area: &[u64],
@@ -59,7 +60,7 @@ pub fn add_row(
     Some(sum)
 }
 
-// Two rows with no call between their loops: most of the work is done here.
+// Two rows with no call between their loops.
 pub fn add_two_rows(
     area: &[u64],
     left: Part,
@@ -76,7 +77,15 @@ pub fn add_two_rows(
     let mut sum = acc;
     for j in 0..row.count {
         let k = row.count - 1 - j;
-        sum = add_row(area, left, right, last, l + j * row.left, r + k * row.right, sum)?;
+        sum = add_row(
+            area,
+            left,
+            right,
+            last,
+            l + j * row.left,
+            r + k * row.right,
+            sum,
+        )?;
     }
     Some(sum)
 }
@@ -103,7 +112,15 @@ pub fn add_rows(
     let mut sum = acc;
     for j in 0..row.count {
         let k = row.count - 1 - j;
-        sum = add_rows(area, left, right, others, l + j * row.left, r + k * row.right, sum)?;
+        sum = add_rows(
+            area,
+            left,
+            right,
+            others,
+            l + j * row.left,
+            r + k * row.right,
+            sum,
+        )?;
     }
     Some(sum)
 }

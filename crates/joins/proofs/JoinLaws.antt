@@ -1,10 +1,10 @@
 -- A join of a network: the lists of its windows and strides are sound, and walking them is walking the network's own pairs of the join.
-use Prim.Native.Nat.{ℕ, suc, ◌+◌, ◌-◌, ◌*◌, ◌^◌, ◌≤◌, ◌<◌}
+use Prim.Native.Nat.{ℕ, suc, ◌+◌, ◌*◌, ◌^◌, ◌≤◌, ◌<◌}
 use mathlib.Core.Path.{◌≡◌, refl, sym, ap, subst, ◌∙◌, fun_ext}
 use mathlib.Core.List.{List, [], ◌∷◌, map, map-map, flat_map, zip_with}
-use native.Mathlib.Nat.{pow-le-pow_right, zero-add, one-mul, sub-zero}
+use native.Mathlib.Nat.{pow-le-pow_right, zero-add, one-mul}
 use native.Mathlib.Omega.{arith}
-use lib.ListN.{length, take, drop}
+use lib.ListN.{length, take}
 use Rattle.network.specs.Coverage.{Coverage, Tree, join, coverages}
 use Rattle.network.specs.Cells.{Span, indices, span, strides, along, spans_at, all_cells, cell_of}
 use Rattle.network.specs.Pairs.{Pair, index_pairs, own_pairs}

@@ -1,6 +1,6 @@
 -- A join's lists of loops and rows are sound: where the chains' last places lie in the children's cells and the join's own, and the largest cell's number of
 -- pairs is below 2^64, so is it at every cell that the loops come to. By induction over the chains, with the rows of the chains before.
-use Prim.Native.Nat.{ℕ, suc, ◌+◌, ◌-◌, ◌*◌, ◌^◌, ◌≤◌, ◌<◌}
+use Prim.Native.Nat.{ℕ, ◌+◌, ◌-◌, ◌*◌, ◌^◌, ◌≤◌, ◌<◌}
 use mathlib.Core.Path.{◌≡◌, refl, sym, ap, ◌∙◌}
 use mathlib.Core.List.{List, [], ◌∷◌, ◌++◌, append-nil}
 use native.Mathlib.Nat.{mul-le-mul_right, mul-le-mul_left, mul_assoc, mul-one, le_refl, one-le-mul}

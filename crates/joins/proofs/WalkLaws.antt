@@ -1,7 +1,7 @@
 -- Walks: over two lists one after the other; over a list that is all skipped; after the end; and what `spend` has to do with them. By
 -- induction over the pairs.
 use Prim.Native.Nat.{ℕ, zero, suc, ◌+◌, ◌-◌, ◌^◌, ◌≤◌}
-use mathlib.Core.Path.{◌≡◌, refl, sym, ap, ◌∙◌}
+use mathlib.Core.Path.{◌≡◌, refl, ap, ◌∙◌}
 use mathlib.Core.Bool.{Bool, true, false, ◌&&◌}
 use mathlib.Core.List.{List, [], ◌∷◌, ◌++◌}
 use native.Mathlib.Nat.{sub-zero, not-suc-le-zero, le_of_suc-le-suc}

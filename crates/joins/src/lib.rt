@@ -94,5 +94,12 @@ pub fn walk_join(
         own: 0,
         count: used.count,
     };
-    walks::walk_loops(area, parts, &loops[..used.loops], &mut rows[..used.rows], at, q)
+    walks::walk_loops(
+        area,
+        parts,
+        &loops[..used.loops],
+        &mut rows[..used.rows],
+        at,
+        q,
+    )
 }

@@ -1,6 +1,6 @@
 -- `add_chain` meets its contract: a chain is shared where neither child's stride is 0, and closed where the join's is.
 use mathlib.Core.Bool.{true, false, ◌&&◌}
-use mathlib.Core.Path.{◌≡◌, sym}
+use mathlib.Core.Path.{◌≡◌}
 use native.Mathlib.Omega.{arith}
 use lib.Dec.{ltb}
 use Rattle.std.proofs.lemmas.Grind.{common_steps}

@@ -1,11 +1,10 @@
 -- `walk_loops` meets its contract, by recursion on the loops that are left: one turn of the first loop is the others at other places. The
 -- rows stay as they were, but for the count that the loop writes.
-use Prim.Native.Nat.{ℕ, ◌+◌}
 use mathlib.Core.Path.{refl, sym, ap, ◌∙◌}
 use native.Mathlib.Omega.{arith}
 use lib.ListN.{length}
 use Rattle.cellsums.proofs.PlaceLaws.{first_rest}
-use Rattle.joins.specs.Walk.{state, walk}
+use Rattle.joins.specs.Walk.{state}
 use Rattle.joins.proofs.TurnLaws.{walk_begins, walk_ends, walk_left}
 use Rattle.joins.proofs.CountLaws.{has_as}
 use Rattle.joins.proofs.LoopLaws.{loop_again, loops_as, row_in, turn_numbers, turn_sound, last_at, last_pairs, sound_as, write_again}
@@ -58,14 +57,14 @@ pub returns : goal.returns
 returns t c =
     let i = c.loop-i.invariant in
     elim c.loop-i-test.branch [
-      else-loop-i-test w ↦ (
+      | else-loop-i-test w ↦ (
         (λ j. state (w.e-is j) (w.area-is j)) ∙ loops_as _ _ _ _ _ _ _ _ _ _ i.loops_are (walk_ends i.walked w.loop-i-test.false),
         c.set_count-2.ensures ∙ rw w.rows-is (i.rows_are _) ∙ i.old_is,
       )
-    | then-loop-i-test+then-ended w ↦ (
+      | then-loop-i-test+then-ended w ↦ (
         (λ j. state (w.e-is j) (w.area-is j))
-        ∙ loops_as _ _ _ _ _ _ _ _ _ _ i.loops_are
-        (walk_left (loop_again _ _ _ _ _ _ _ i.walked w.loop-i-test.true (w.set_count.ensures ∙ i.rows_are _) _ w.turn.ensures w.walk_loops-e.ensures.0) (sym w.ended.ensures ∙ w.if-ended.true)),
+            ∙ loops_as _ _ _ _ _ _ _ _ _ _ i.loops_are
+            (walk_left (loop_again _ _ _ _ _ _ _ i.walked w.loop-i-test.true (w.set_count.ensures ∙ i.rows_are _) _ w.turn.ensures w.walk_loops-e.ensures.0) (sym w.ended.ensures ∙ w.if-ended.true)),
         c.set_count-2.ensures ∙ rw w.rows-is (write_again _ c.loop-i.rows _ _ _ i.rows_are (w.walk_loops-e.ensures.1 ∙ w.set_count.ensures) _) ∙ i.old_is,
       )
     ]

@@ -1,5 +1,4 @@
 -- `walk_last` meets its contract: one turn a cell. The rows stay as they were, but for the count that the loop writes.
-use Prim.Native.Nat.{ℕ, ◌+◌}
 use mathlib.Core.Path.{refl, sym, ◌∙◌}
 use native.Mathlib.Omega.{arith}
 use Rattle.joins.specs.Walk.{state}
@@ -43,14 +42,14 @@ pub returns : goal.returns
 returns c =
     let i = c.loop-i.invariant in
     elim c.loop-i-test.branch [
-      else-loop-i-test w ↦ (
+      | else-loop-i-test w ↦ (
         (λ j. state ((c.copied.ensures ∙ w.e-is) j) (w.area-is j)) ∙ loops_as _ _ _ _ _ _ _ _ _ _ refl (walk_ends i.walked w.loop-i-test.false),
         c.set_count-2.ensures ∙ rw w.rows-is (i.rows_are _) ∙ i.old_is,
       )
-    | then-loop-i-test+then-ended w ↦ (
+      | then-loop-i-test+then-ended w ↦ (
         (λ j. state ((c.copied.ensures ∙ w.e-is) j) (w.area-is j))
-        ∙ loops_as _ _ _ _ _ _ _ _ _ _ refl
-        (walk_left (last_again _ _ _ _ _ _ i.walked w.loop-i-test.true (w.set_count.ensures ∙ i.rows_are _) _ w.turn.ensures w.walk_cell-e.ensures) (sym w.ended.ensures ∙ w.if-ended.true)),
+            ∙ loops_as _ _ _ _ _ _ _ _ _ _ refl
+            (walk_left (last_again _ _ _ _ _ _ i.walked w.loop-i-test.true (w.set_count.ensures ∙ i.rows_are _) _ w.turn.ensures w.walk_cell-e.ensures) (sym w.ended.ensures ∙ w.if-ended.true)),
         c.set_count-2.ensures ∙ rw w.rows-is (write_again _ c.loop-i.rows _ _ _ i.rows_are w.set_count.ensures _) ∙ i.old_is,
       )
     ]
