@@ -90,7 +90,7 @@ pub fn add_two_rows(
     Some(sum)
 }
 
-// Any number of rows.
+// Any number of rows. The two parts are passed as two: a join holds them beside its own, and the definitions speak of each.
 pub fn add_rows(
     area: &[u64],
     left: Part,

@@ -38,7 +38,8 @@ pub struct Turn {
     pub count: usize,
 }
 
-// How many pairs are still to be skipped and to be added, and whether a pair ended the walk.
+// How many pairs are still to be skipped and to be added, and whether a pair ended the walk: all three are read after the end, since a walk
+// that is over has a budget left.
 #[derive(Clone, Copy)]
 pub struct Quota {
     pub skip: usize,
@@ -62,7 +63,8 @@ pub struct Used {
     pub count: usize,
 }
 
-// The pairs of one join of a network, from its windows, the strides of the children and the join, and where their cells lie.
+// The pairs of one join of a network, from its windows, the strides of the children and the join, and where their cells lie. The strides lie
+// in three entries of the table: one list of chains would be a copy of them for each join.
 pub fn walk_join(
     area: &mut [u64],
     windows: &[usize],
