@@ -91,7 +91,7 @@ fn copied(q: Quota) -> Quota
 }
 
 // The same as walk_rows, over copies made field by field: what a call takes by address stays in memory, and the loop over the cells is to
-// keep its own in registers. Without them a run of small cells took a quarter longer.
+// keep its own in registers. Without them a run of small cells took a sixth longer.
 fn one_by_one(area: &mut [u64], join: Join, rows: &[Row], at: Turn, q: Quota) -> Quota
     requires { Inside (length area.old) join rows.now at.left at.right at.own }
     ensures { state result area.new ≡ walk (cell_pairs join rows.now at.left at.right at.own) (state q area.old) }
