@@ -5,32 +5,19 @@ use Rattle.sums.specs.Lists.{from}
 use Rattle.cellsums.specs.declared.Part.{Part}
 use Rattle.cellsums.specs.declared.Row.{Row}
 
--- rows lie flat, three numbers a row: how many j there are (0 and up), the left stride and the right stride
-abbrev pub row_then : Row → List ℕ → List ℕ
-row_then row rows = row.count ∷ row.left ∷ row.right ∷ rows
-
-abbrev pub row_at : List ℕ → ℕ → Row
-row_at rows p = record { count = get_or rows p 0; left = get_or rows (p + 1) 0; right = get_or rows (p + 2) 0 }
-
 -- "the left index is j and the right is i - j": as j goes up the left place grows, and the right one falls
-unfoldable pub places : List ℕ → ℕ → ℕ → List (ℕ × ℕ)
+unfoldable pub places : List Row → ℕ → ℕ → List (ℕ × ℕ)
 places [] l r = (l, r) ∷ []
-places (n ∷ []) l r = (l, r) ∷ []
-places (n ∷ a ∷ []) l r = (l, r) ∷ []
-places (n ∷ a ∷ b ∷ rows) l r = flat_map (λ j. places rows (l + j * a) (r + (n - 1 - j) * b)) (from 0 n)
+places (row ∷ rows) l r = flat_map (λ j. places rows (l + j * row.left) (r + (row.count - 1 - j) * row.right)) (from 0 row.count)
 
 -- how far the places reach
-unfoldable pub reach_left : List ℕ → ℕ
+unfoldable pub reach_left : List Row → ℕ
 reach_left [] = 0
-reach_left (n ∷ []) = 0
-reach_left (n ∷ a ∷ []) = 0
-reach_left (n ∷ a ∷ b ∷ rows) = (n - 1) * a + reach_left rows
+reach_left (row ∷ rows) = (row.count - 1) * row.left + reach_left rows
 
-unfoldable pub reach_right : List ℕ → ℕ
+unfoldable pub reach_right : List Row → ℕ
 reach_right [] = 0
-reach_right (n ∷ []) = 0
-reach_right (n ∷ a ∷ []) = 0
-reach_right (n ∷ a ∷ b ∷ rows) = (n - 1) * b + reach_right rows
+reach_right (row ∷ rows) = (row.count - 1) * row.right + reach_right rows
 
 -- a node's cells
 abbrev pub cells_in : List ℕ → Part → List ℕ
@@ -41,7 +28,7 @@ unfoldable pub product : List ℕ → Part → Part → ℕ × ℕ → ℕ
 product area left right p = get_or (cells_in area left) p.0 0 * get_or (cells_in area right) p.1 0
 
 -- the children's cells lie in an area of n cells, and the places in the children's cells
-pub record Within (n : ℕ) (left right : Part) (rows : List ℕ) (l r : ℕ) : Type 0 where
+pub record Within (n : ℕ) (left right : Part) (rows : List Row) (l r : ℕ) : Type 0 where
   pub left_from : left.from ≤ left.to
   pub left_to : left.to ≤ n
   pub left_reach : left.from + (l + reach_left rows) < left.to

@@ -2,10 +2,10 @@
 // child's cells as a part of it, one child at a time.
 #![tactic(auto)]
 
-ghost use Rattle.std.specs.Prelude.{◌≡◌, [], ◌+◌, ◌≤◌, ◌<◌, length, get_or};
+ghost use Rattle.std.specs.Prelude.{◌≡◌, [], ◌∷◌, ◌+◌, ◌≤◌, ◌<◌, length, get_or};
 ghost use Rattle.sums.specs.Sums.{sum_over};
 ghost use Rattle.arith.specs.Capped.{capped};
-ghost use Rattle.cellsums.specs.Places.{places, row_then, row_at, product, Within};
+ghost use Rattle.cellsums.specs.Places.{places, product, Within};
 
 // A node's cells in the area.
 #[derive(Clone, Copy)]
@@ -33,15 +33,13 @@ pub fn add_pair(area: &[u64], left: Part, right: Part, l: usize, r: usize, acc: 
     requires { Within (length area.now) left right [] l r }
     ensures { result ≡ capped (acc + sum_over (places [] l r) (product area.now left right)) }
 {
-    let l0 = left.from;
-    let l1 = left.to;
-    let r0 = right.from;
-    let r1 = right.to;
-    let x = cell(&area[l0..l1], l);
-    let y = cell(&area[r0..r1], r);
+    let x = cell(&area[left.from..left.to], l);
+    let y = cell(&area[right.from..right.to], r);
     arith::mul_add(acc, x, y)
 }
 
+// Inlined into add_two_rows, where most of the work is done: with a call for each row dense models took a sixth longer.
+#[inline(always)]
 pub fn add_row(
     area: &[u64],
     left: Part,
@@ -51,29 +49,18 @@ pub fn add_row(
     r: usize,
     acc: u64,
 ) -> Option<u64>
-    requires { Within (length area.now) left right (row_then row []) l r }
-    ensures { result ≡ capped (acc + sum_over (places (row_then row []) l r) (product area.now left right)) }
+    requires { Within (length area.now) left right (row ∷ []) l r }
+    ensures { result ≡ capped (acc + sum_over (places (row ∷ []) l r) (product area.now left right)) }
 {
-    let n = row.count;
-    let a = row.left;
-    let b = row.right;
     let mut sum = acc;
-    let mut j: usize = 0;
-    while j < n {
-        match add_pair(area, left, right, l + j * a, r + (n - 1 - j) * b, sum) {
-            Some(v) => {
-                sum = v;
-            }
-            None => {
-                return None;
-            }
-        }
-        j += 1;
+    for j in 0..row.count {
+        let k = row.count - 1 - j;
+        sum = add_pair(area, left, right, l + j * row.left, r + k * row.right, sum)?;
     }
     Some(sum)
 }
 
-// Two rows with no call between their loops: most of the work is done here.
+// Two rows with no call between their loops.
 pub fn add_two_rows(
     area: &[u64],
     left: Part,
@@ -84,46 +71,31 @@ pub fn add_two_rows(
     r: usize,
     acc: u64,
 ) -> Option<u64>
-    requires { Within (length area.now) left right (row_then row (row_then last [])) l r }
-    ensures { result ≡ capped (acc + sum_over (places (row_then row (row_then last [])) l r) (product area.now left right)) }
+    requires { Within (length area.now) left right (row ∷ last ∷ []) l r }
+    ensures { result ≡ capped (acc + sum_over (places (row ∷ last ∷ []) l r) (product area.now left right)) }
 {
-    let n = row.count;
-    let a = row.left;
-    let b = row.right;
     let mut sum = acc;
-    let mut j: usize = 0;
-    while j < n {
-        match add_row(area, left, right, last, l + j * a, r + (n - 1 - j) * b, sum) {
-            Some(v) => {
-                sum = v;
-            }
-            None => {
-                return None;
-            }
-        }
-        j += 1;
+    for j in 0..row.count {
+        let k = row.count - 1 - j;
+        sum = add_row(
+            area,
+            left,
+            right,
+            last,
+            l + j * row.left,
+            r + k * row.right,
+            sum,
+        )?;
     }
     Some(sum)
 }
 
-// The row at a place of a flat list.
-fn row_at(rows: &[usize], at: usize) -> Row
-    requires { at + 3 ≤ length rows.now }
-    ensures { result ≡ row_at rows.now at }
-{
-    Row {
-        count: rows[at],
-        left: rows[at + 1],
-        right: rows[at + 2],
-    }
-}
-
-// Any number of rows, flat, three numbers a row.
+// Any number of rows. The two parts are passed as two: a join holds them beside its own, and the definitions speak of each.
 pub fn add_rows(
     area: &[u64],
     left: Part,
     right: Part,
-    rows: &[usize],
+    rows: &[Row],
     l: usize,
     r: usize,
     acc: u64,
@@ -131,40 +103,35 @@ pub fn add_rows(
     requires { Within (length area.now) left right rows.now l r }
     ensures { result ≡ capped (acc + sum_over (places rows.now l r) (product area.now left right)) }
 {
-    if rows.len() < 3 {
+    let [row, others @ ..] = rows else {
         return add_pair(area, left, right, l, r, acc);
+    };
+    if let [last] = others {
+        return add_two_rows(area, left, right, *row, *last, l, r, acc);
     }
-    let row = row_at(rows, 0);
-    if rows.len() == 6 {
-        let last = row_at(rows, 3);
-        return add_two_rows(area, left, right, row, last, l, r, acc);
-    }
-    let n = row.count;
-    let a = row.left;
-    let b = row.right;
     let mut sum = acc;
-    let mut j: usize = 0;
-    while j < n {
-        let k = n - 1 - j;
-        match add_rows(area, left, right, &rows[3..], l + j * a, r + k * b, sum) {
-            Some(v) => {
-                sum = v;
-            }
-            None => {
-                return None;
-            }
-        }
-        j += 1;
+    for j in 0..row.count {
+        let k = row.count - 1 - j;
+        sum = add_rows(
+            area,
+            left,
+            right,
+            others,
+            l + j * row.left,
+            r + k * row.right,
+            sum,
+        )?;
     }
     Some(sum)
 }
 
 // The same, with no call where a cell has one shared chain or none.
+#[inline(always)]
 pub fn cell_sum(
     area: &[u64],
     left: Part,
     right: Part,
-    rows: &[usize],
+    rows: &[Row],
     l: usize,
     r: usize,
     acc: u64,
@@ -172,11 +139,9 @@ pub fn cell_sum(
     requires { Within (length area.now) left right rows.now l r }
     ensures { result ≡ capped (acc + sum_over (places rows.now l r) (product area.now left right)) }
 {
-    if rows.len() < 3 {
-        return add_pair(area, left, right, l, r, acc);
+    match rows {
+        [] => add_pair(area, left, right, l, r, acc),
+        [row] => add_row(area, left, right, *row, l, r, acc),
+        _ => add_rows(area, left, right, rows, l, r, acc),
     }
-    if rows.len() == 3 {
-        return add_row(area, left, right, row_at(rows, 0), l, r, acc);
-    }
-    add_rows(area, left, right, rows, l, r, acc)
 }

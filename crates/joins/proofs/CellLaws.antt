@@ -17,6 +17,7 @@ use Rattle.arith.specs.Capped.{capped}
 use Rattle.std.specs.Prelude.{Some}
 use Rattle.arith.proofs.CappedLaws.{exact_says}
 use Rattle.cellsums.specs.Places.{places, reach_left, reach_right, cells_in, product}
+use Rattle.cellsums.specs.declared.Row.{Row}
 use Rattle.joins.specs.Walk.{state, attempt, step, walk}
 use Rattle.joins.specs.Loops.{pair_at, cell_pairs, Inside}
 use Rattle.joins.specs.declared.Join.{Join}
@@ -43,19 +44,17 @@ module _ {A : Type 0} where
   all_flat P f k (suc m) h = all_append (h k (omega arith)) (all_flat P f (suc k) m (λ j l. h j (omega arith)))
 
 -- a cell's places stay in reach
-Reach : List ℕ → ℕ → ℕ → ℕ × ℕ → Type 0
+Reach : List Row → ℕ → ℕ → ℕ × ℕ → Type 0
 Reach rows l r p = (p.0 ≤ l + reach_left rows) × (p.1 ≤ r + reach_right rows)
 
-places_reach : (rows : List ℕ) (l r : ℕ) → All (Reach rows l r) (places rows l r)
+places_reach : (rows : List Row) (l r : ℕ) → All (Reach rows l r) (places rows l r)
 unfolding places Reach reach_left reach_right
 places_reach [] l r = All.more {x = (l, r)} (omega arith, omega arith) All.none
-places_reach (n ∷ []) l r = All.more {x = (l, r)} (omega arith, omega arith) All.none
-places_reach (n ∷ a ∷ []) l r = All.more {x = (l, r)} (omega arith, omega arith) All.none
-places_reach (n ∷ a ∷ b ∷ rows) l r =
-    all_flat _ (λ j. places rows (l + j * a) (r + (n - 1 - j) * b)) 0 n (λ j h.
-    let u : j * a ≤ (n - 1) * a = mul-le-mul_right a (omega arith) in
-    let v : (n - 1 - j) * b ≤ (n - 1) * b = mul-le-mul_right b (omega arith) in
-    all_map (λ p q. (omega (arith, q.0), omega (arith, q.1))) (places_reach rows (l + j * a) (r + (n - 1 - j) * b)))
+places_reach (row ∷ rows) l r =
+    all_flat _ (λ j. places rows (l + j * row.left) (r + (row.count - 1 - j) * row.right)) 0 row.count (λ j h.
+    let u : j * row.left ≤ (row.count - 1) * row.left = mul-le-mul_right row.left (omega arith) in
+    let v : (row.count - 1 - j) * row.right ≤ (row.count - 1) * row.right = mul-le-mul_right row.right (omega arith) in
+    all_map (λ p q. (omega (arith, q.0), omega (arith, q.1))) (places_reach rows (l + j * row.left) (r + (row.count - 1 - j) * row.right)))
 
 module _ (join : Join) (t : ℕ) (value : ℕ × ℕ → ℕ) where
   abbrev cell : ℕ
@@ -96,7 +95,7 @@ module _ (join : Join) (t : ℕ) (value : ℕ × ℕ → ℕ) where
 pub cell_over : (ps : List Pair) (q : Quota) (A : List ℕ) → q.over ≡ true → state q A ≡ walk ps (state q A)
 cell_over ps q A y = rw y (sym (walk_over ps q.skip q.budget A))
 
-module _ (n : ℕ) (join : Join) (rows : List ℕ) (l r t : ℕ) (A : List ℕ) (i : Inside n join rows l r t) (size : n ≡ length A) (count : ℕ) (counted : count ≡ length (places rows l r)) (q : Quota) (h : q.over ≡ false) where
+module _ (n : ℕ) (join : Join) (rows : List Row) (l r t : ℕ) (A : List ℕ) (i : Inside n join rows l r t) (size : n ≡ length A) (count : ℕ) (counted : count ≡ length (places rows l r)) (q : Quota) (h : q.over ≡ false) where
   adds : All (Adds join t (product A join.left join.right) A) (places rows l r)
   unfolding Reach product
   adds =
@@ -106,7 +105,7 @@ module _ (n : ℕ) (join : Join) (rows : List ℕ) (l r t : ℕ) (A : List ℕ) 
       (omega (arith, i.left_before), omega (arith, i.right_before), (λ z. sym (part_at A join.left.from join.left.to p.0 a) z * sym (part_at A join.right.from join.right.to p.1 b) z)))
       (places_reach rows l r)
 
-  pub cell_past : count ≤ q.skip → record { skip = q.skip - count; budget = q.budget; over = false; area = A } ≡ walk (cell_pairs join rows l r t) (state q A)
+  pub cell_past : count ≤ q.skip → record { skip = q.skip - count; budget = q.budget; over = q.over; area = A } ≡ walk (cell_pairs join rows l r t) (state q A)
   unfolding cell_pairs
   cell_past k =
       let e : length (map (pair_at join t) (places rows l r)) ≡ count = length-map (places rows l r) (pair_at join t) ∙ sym counted in
@@ -114,7 +113,7 @@ module _ (n : ℕ) (join : Join) (rows : List ℕ) (l r t : ℕ) (A : List ℕ) 
 
   pub cell_added : q.skip ≤ 0 → count ≤ q.budget → (x v : ℕ) (own : List ℕ) → x ≡ get_or (cells_in A join.own) t 0 → own ≡ set (cells_in A join.own) t v
       → capped (x + sum_over (places rows l r) (product A join.left join.right)) ≡ Some v
-      → record { skip = 0; budget = q.budget - count; over = false; area = put_mid join.own.from (join.own.to - join.own.from) A own } ≡ walk (cell_pairs join rows l r t) (state q A)
+      → record { skip = q.skip; budget = q.budget - count; over = q.over; area = put_mid join.own.from (join.own.to - join.own.from) A own } ≡ walk (cell_pairs join rows l r t) (state q A)
   unfolding cell_pairs
   cell_added k b x v own ex eo e =
       let told = exact_says e in

@@ -1,17 +1,20 @@
--- A join's chains by the four ways in which they loop, the flat lists of loops and rows that they make, and the pairs that those list: over
+-- A join's chains by the four ways in which they loop, the lists of loops and rows that they make, and the pairs that those list: over
 -- the result's indices, then over the rows. By induction over the chains, with the rows of the chains before.
-use Prim.Native.Nat.{ℕ, suc, ◌+◌, ◌*◌, ◌≤◌}
+use Prim.Native.Nat.{ℕ, suc, ◌+◌, ◌*◌}
 use mathlib.Core.Path.{◌≡◌, refl, sym, ap, ◌∙◌, fun_ext}
 use mathlib.Core.List.{List, [], ◌∷◌, ◌++◌, map, flat_map, append_assoc, append-nil}
 use native.Mathlib.Omega.{arith}
-use lib.ListN.{length, set, length-append}
-use lib.Seq.{set-append_seam, set_out}
+use lib.ListN.{length, length-append}
+use Rattle.std.specs.Prelude.{Some, None}
+use Rattle.std.specs.declared.option.Option.{Option}
 use Rattle.sums.specs.Lists.{from}
 use Rattle.network.specs.Pairs.{Pair}
 use Rattle.network.specs.Cells.{Span, only, upto, indices, index_values, along}
-use Rattle.joins.specs.Loops.{cell_pairs, loop_pairs}
-use Rattle.joins.specs.Flat.{unshared}
+use Rattle.cellsums.specs.declared.Row.{Row}
+use Rattle.joins.specs.Loops.{cell_pairs, counted, loop_pairs}
 use Rattle.joins.specs.declared.Join.{Join}
+use Rattle.joins.specs.declared.Loop.{Loop}
+use Rattle.joins.proofs.CountLaws.{row_of, counted_seam}
 
 -- a chain with its window and its strides in the left child, the right child and the join
 pub data Chain : Type 0 where
@@ -36,29 +39,32 @@ own_stride (ends n a b) = 0
 own_stride (one n a b c) = c
 own_stride (still i) = 0
 
--- ---- the flat lists
+-- ---- the lists
 
--- the rows of the chains before have `at` numbers
-unfoldable pub loops : ℕ → List Chain → List ℕ
+abbrev pub loop_of : ℕ → Option ℕ → ℕ → ℕ → ℕ → Loop
+loop_of count row left right own = record { count = count; row = row; left = left; right = right; own = own }
+
+-- there are `at` rows of the chains before
+unfoldable pub loops : ℕ → List Chain → List Loop
 loops at [] = []
-loops at (both n a b c ∷ cs) = (n + 1) ∷ at ∷ 0 ∷ 0 ∷ c ∷ loops (at + 3) cs
-loops at (ends n a b ∷ cs) = loops (at + 3) cs
-loops at (one n a b c ∷ cs) = (n + 1) ∷ unshared ∷ a ∷ b ∷ c ∷ loops at cs
+loops at (both n a b c ∷ cs) = loop_of (n + 1) (Some at) 0 0 c ∷ loops (at + 1) cs
+loops at (ends n a b ∷ cs) = loops (at + 1) cs
+loops at (one n a b c ∷ cs) = loop_of (n + 1) None a b c ∷ loops at cs
 loops at (still i ∷ cs) = loops at cs
 
-unfoldable pub rows : List Chain → List ℕ
+unfoldable pub rows : List Chain → List Row
 rows [] = []
-rows (both n a b c ∷ cs) = 1 ∷ a ∷ b ∷ rows cs
-rows (ends n a b ∷ cs) = (n + 1) ∷ a ∷ b ∷ rows cs
+rows (both n a b c ∷ cs) = row_of 1 a b ∷ rows cs
+rows (ends n a b ∷ cs) = row_of (n + 1) a b ∷ rows cs
 rows (one n a b c ∷ cs) = rows cs
 rows (still i ∷ cs) = rows cs
 
 -- the rows at a result index, and the places to which the chains of one child lead
-unfoldable pub rows_at : List Chain → List ℕ → List ℕ
+unfoldable pub rows_at : List Chain → List ℕ → List Row
 rows_at [] v = []
 rows_at (c ∷ cs) [] = []
-rows_at (both n a b c ∷ cs) (i ∷ v) = (i + 1) ∷ a ∷ b ∷ rows_at cs v
-rows_at (ends n a b ∷ cs) (i ∷ v) = (i + 1) ∷ a ∷ b ∷ rows_at cs v
+rows_at (both n a b c ∷ cs) (i ∷ v) = row_of (i + 1) a b ∷ rows_at cs v
+rows_at (ends n a b ∷ cs) (i ∷ v) = row_of (i + 1) a b ∷ rows_at cs v
 rows_at (one n a b c ∷ cs) (i ∷ v) = rows_at cs v
 rows_at (still x ∷ cs) (i ∷ v) = rows_at cs v
 
@@ -98,47 +104,50 @@ module _ {B : Type 0} where
 
 -- ---- the loops list the cells in the order of the indices
 
+pub row_more : (before : List Row) (row : Row) (g : List Row) → before ++ (row ∷ g) ≡ (before ++ (row ∷ [])) ++ g
+row_more before row g = sym (append_assoc before (row ∷ []) g)
+
+pub row_length : (before : List Row) (row : Row) → length before + 1 ≡ length (before ++ (row ∷ []))
+row_length before row = sym (length-append before (row ∷ []))
+
 module _ (join : Join) where
   -- the pairs of a result index, where the rows of the chains before are settled
-  abbrev pub pairs_of : List ℕ → ℕ → ℕ → ℕ → List Chain → List ℕ → List Pair
+  abbrev pub pairs_of : List Row → ℕ → ℕ → ℕ → List Chain → List ℕ → List Pair
   pairs_of before l r t cs v = cell_pairs join (before ++ rows_at cs v) (left_at cs v l) (right_at cs v r) (t + along (map own_stride cs) v)
-
-  row_more : (before : List ℕ) (x a b : ℕ) (g : List ℕ) → before ++ (x ∷ a ∷ b ∷ g) ≡ (before ++ (x ∷ a ∷ b ∷ [])) ++ g
-  row_more before x a b g = sym (append_assoc before (x ∷ a ∷ b ∷ []) g)
-
-  row_length : (before : List ℕ) (x a b : ℕ) → length before + 3 ≡ length (before ++ (x ∷ a ∷ b ∷ []))
-  row_length before x a b = sym (length-append before (x ∷ a ∷ b ∷ []))
 
   further : (t i c x : ℕ) → t + i * c + x ≡ t + (c * i + x)
   further t i c x = omega arith
 
-  pub loops_list : (cs : List Chain) (before : List ℕ) (l r t : ℕ) → length before + length (rows cs) ≤ unshared
-      → loop_pairs join (loops (length before) cs) (before ++ rows cs) l r t ≡ flat_map (pairs_of before l r t cs) (indices (map span_of cs))
+  still_there : (t x y : ℕ) → t + y ≡ t + (0 * x + y)
+  still_there t x y = omega arith
+
+  pub loops_list : (cs : List Chain) (before : List Row) (l r t : ℕ) → loop_pairs join (loops (length before) cs) (before ++ rows cs) l r t ≡ flat_map (pairs_of before l r t cs) (indices (map span_of cs))
   unfolding loops rows loop_pairs indices index_values along rows_at left_at right_at span_of own_stride flat_map
-  loops_list [] before l r t h = (let e : t ≡ t + 0 = omega arith in λ z. cell_pairs join (before ++ []) l r (e z)) ∙ sym (append-nil _)
-  loops_list (both n a b c ∷ cs) before l r t h =
-      (let m : n + 1 ≡ suc n = omega arith in ap (λ k. flat_map (λ i. loop_pairs join (loops (length before + 3) cs) (set (before ++ (1 ∷ a ∷ b ∷ rows cs)) (length before) (i + 1)) (l + i * 0) (r + i * 0) (t + i * c)) (from 0 k)) m)
+  loops_list [] before l r t = (let e : t ≡ t + 0 = omega arith in λ z. cell_pairs join (before ++ []) l r (e z)) ∙ sym (append-nil _)
+  loops_list (both n a b c ∷ cs) before l r t =
+      (let m : n + 1 ≡ suc n = omega arith in ap (λ k. flat_map (λ i. loop_pairs join (loops (length before + 1) cs) (counted (before ++ (row_of 1 a b ∷ rows cs)) (length before) (i + 1)) (l + i * 0) (r + i * 0) (t + i * c)) (from 0 k)) m)
       ∙ ap (λ f. flat_map f (from 0 (suc n))) (fun_ext (λ i.
+      let row = row_of (i + 1) a b in
       (let e : l + i * 0 ≡ l = omega arith in let f : r + i * 0 ≡ r = omega arith in
-      λ z. loop_pairs join (loops (row_length before (i + 1) a b z) cs) ((set-append_seam before 1 (a ∷ b ∷ rows cs) (i + 1) ∙ row_more before (i + 1) a b (rows cs)) z) (e z) (f z) (t + i * c))
-      ∙ loops_list cs (before ++ ((i + 1) ∷ a ∷ b ∷ [])) l r (t + i * c) (omega (arith, row_length before (i + 1) a b))
-      ∙ ap (λ k. flat_map k (indices (map span_of cs))) (fun_ext (λ v. λ z. cell_pairs join (sym (row_more before (i + 1) a b (rows_at cs v)) z) (left_at cs v l) (right_at cs v r) (further t i c (along (map own_stride cs) v) z)))))
+      λ z. loop_pairs join (loops (row_length before row z) cs) ((counted_seam before (row_of 1 a b) (rows cs) (i + 1) ∙ row_more before row (rows cs)) z) (e z) (f z) (t + i * c))
+      ∙ loops_list cs (before ++ (row ∷ [])) l r (t + i * c)
+      ∙ ap (λ k. flat_map k (indices (map span_of cs))) (fun_ext (λ v. λ z. cell_pairs join (sym (row_more before row (rows_at cs v)) z) (left_at cs v l) (right_at cs v r) (further t i c (along (map own_stride cs) v) z)))))
       ∙ sym (flat_box _ (indices (map span_of cs)) (from 0 (suc n)))
-  loops_list (ends n a b ∷ cs) before l r t h =
-      (λ z. loop_pairs join (loops (row_length before (n + 1) a b z) cs) (row_more before (n + 1) a b (rows cs) z) l r t)
-      ∙ loops_list cs (before ++ ((n + 1) ∷ a ∷ b ∷ [])) l r t (omega (arith, row_length before (n + 1) a b))
-      ∙ ap (λ k. flat_map k (indices (map span_of cs))) (fun_ext (λ v. let e : t + along (map own_stride cs) v ≡ t + (0 * n + along (map own_stride cs) v) = omega arith in λ z. cell_pairs join (sym (row_more before (n + 1) a b (rows_at cs v)) z) (left_at cs v l) (right_at cs v r) (e z)))
+  loops_list (ends n a b ∷ cs) before l r t =
+      let row = row_of (n + 1) a b in
+      (λ z. loop_pairs join (loops (row_length before row z) cs) (row_more before row (rows cs) z) l r t)
+      ∙ loops_list cs (before ++ (row ∷ [])) l r t
+      ∙ ap (λ k. flat_map k (indices (map span_of cs))) (fun_ext (λ v. λ z. cell_pairs join (sym (row_more before row (rows_at cs v)) z) (left_at cs v l) (right_at cs v r) (still_there t n (along (map own_stride cs) v) z)))
       ∙ sym (append-nil _)
       ∙ sym (flat_box _ (indices (map span_of cs)) (n ∷ []))
-  loops_list (one n a b c ∷ cs) before l r t h =
-      (let m : n + 1 ≡ suc n = omega arith in ap (λ k. flat_map (λ i. loop_pairs join (loops (length before) cs) (set (before ++ rows cs) unshared (i + 1)) (l + i * a) (r + i * b) (t + i * c)) (from 0 k)) m)
+  loops_list (one n a b c ∷ cs) before l r t =
+      (let m : n + 1 ≡ suc n = omega arith in ap (λ k. flat_map (λ i. loop_pairs join (loops (length before) cs) (before ++ rows cs) (l + i * a) (r + i * b) (t + i * c)) (from 0 k)) m)
       ∙ ap (λ f. flat_map f (from 0 (suc n))) (fun_ext (λ i.
-      (λ z. loop_pairs join (loops (length before) cs) (set_out (before ++ rows cs) unshared (i + 1) (omega (arith, length-append before (rows cs))) z) (l + i * a) (r + i * b) (t + i * c))
-      ∙ loops_list cs before (l + i * a) (r + i * b) (t + i * c) h
+      loops_list cs before (l + i * a) (r + i * b) (t + i * c)
       ∙ ap (λ k. flat_map k (indices (map span_of cs))) (fun_ext (λ v. λ z. cell_pairs join (before ++ rows_at cs v) (left_at cs v (l + i * a)) (right_at cs v (r + i * b)) (further t i c (along (map own_stride cs) v) z)))))
       ∙ sym (flat_box _ (indices (map span_of cs)) (from 0 (suc n)))
-  loops_list (still x ∷ cs) before l r t h =
-      loops_list cs before l r t h
-      ∙ ap (λ k. flat_map k (indices (map span_of cs))) (fun_ext (λ v. let e : t + along (map own_stride cs) v ≡ t + (0 * x + along (map own_stride cs) v) = omega arith in λ z. cell_pairs join (before ++ rows_at cs v) (left_at cs v l) (right_at cs v r) (e z)))
+  loops_list (still x ∷ cs) before l r t =
+      loops_list cs before l r t
+      ∙ ap (λ k. flat_map k (indices (map span_of cs))) (fun_ext (λ v. λ z. cell_pairs join (before ++ rows_at cs v) (left_at cs v l) (right_at cs v r) (still_there t x (along (map own_stride cs) v) z)))
       ∙ sym (append-nil _)
       ∙ sym (flat_box _ (indices (map span_of cs)) (x ∷ []))

@@ -1,4 +1,4 @@
--- The flat lists built from windows and strides are those of the join's chains: a stride is 0 exactly where its chain is not partial. And the
+-- The lists built from windows and strides are those of the join's chains: a stride is 0 exactly where its chain is not partial. And the
 -- bounds that make them sound: the chains' last places lie in their nodes, and no cell has more than 16^8 pairs.
 use Prim.Native.Nat.{ℕ, suc, ◌+◌, ◌*◌, ◌^◌, ◌≤◌, ◌<◌}
 use mathlib.Core.Path.{◌≡◌, refl, sym, ap, ◌∙◌}
@@ -7,44 +7,45 @@ use mathlib.Core.List.{List, [], ◌∷◌, ◌++◌, zip_with, append_assoc, ap
 use native.Mathlib.Nat.{mul-one, mul_assoc, mul-le-mul_right, le_refl, le_trans, pow-suc}
 use native.Mathlib.Omega.{arith}
 use borrow.Author.Tests.{lt-ltb}
-use lib.ListN.{length, get_or, length-append}
+use lib.ListN.{length, get_or}
+use Rattle.std.specs.Prelude.{Some, None}
 use Rattle.network.specs.Coverage.{Coverage, finished, partial, absent}
 use Rattle.network.specs.Cells.{span, size, cells, stride, strides}
 use Rattle.network.proofs.CoverageLaws.{Meet, Meets}
 use Rattle.network.proofs.CellLaws.{cells_pos}
 use Rattle.joins.specs.Flat.{Flat, with_chain, add_chain, add_chains}
-use Rattle.joins.proofs.ChainLaws.{Chain, both, ends, one, still, loops, rows}
+use Rattle.joins.proofs.CountLaws.{row_of}
+use Rattle.joins.proofs.ChainLaws.{Chain, both, ends, one, still, loop_of, loops, rows, row_length}
 use Rattle.joins.proofs.MeetLaws.{chain, chains}
 use Rattle.joins.proofs.SoundLaws.{more_left, more_right, more_own, ended, most}
 
--- ---- the flat lists
+-- ---- the lists
 
 abbrev pub extended : Flat → List Chain → Flat
 extended f cs = record { loops = f.loops ++ loops (length f.rows) cs; rows = f.rows ++ rows cs; count = f.count * ended cs }
 
 module _ (f : Flat) (n a b c : ℕ) (cs : List Chain) where
-  longer : (x y z : ℕ) → length (f.rows ++ (x ∷ y ∷ z ∷ [])) ≡ length f.rows + 3
-  longer x y z = length-append f.rows (x ∷ y ∷ z ∷ [])
-
   with_both : extended (with_chain true true f n a b c) cs ≡ extended f (both n a b c ∷ cs)
   unfolding with_chain loops rows ended
-  with_both = λ i. record {
-    loops = (append_assoc f.loops ((n + 1) ∷ length f.rows ∷ 0 ∷ 0 ∷ c ∷ []) (loops (length (f.rows ++ (1 ∷ a ∷ b ∷ []))) cs) ∙ ap (λ k. f.loops ++ ((n + 1) ∷ length f.rows ∷ 0 ∷ 0 ∷ c ∷ loops k cs)) (longer 1 a b)) i;
-    rows = append_assoc f.rows (1 ∷ a ∷ b ∷ []) (rows cs) i;
-    count = f.count * ended cs;
-  }
+  with_both =
+      let first = loop_of (n + 1) (Some (length f.rows)) 0 0 c in
+      λ i. record {
+        loops = (append_assoc f.loops (first ∷ []) (loops (length (f.rows ++ (row_of 1 a b ∷ []))) cs) ∙ ap (λ k. f.loops ++ (first ∷ loops k cs)) (sym (row_length f.rows (row_of 1 a b)))) i;
+        rows = append_assoc f.rows (row_of 1 a b ∷ []) (rows cs) i;
+        count = f.count * ended cs;
+      }
 
   with_ends : extended (with_chain true false f n a b c) cs ≡ extended f (ends n a b ∷ cs)
   unfolding with_chain loops rows ended
   with_ends = λ i. record {
-    loops = f.loops ++ loops (longer (n + 1) a b i) cs;
-    rows = append_assoc f.rows ((n + 1) ∷ a ∷ b ∷ []) (rows cs) i;
+    loops = f.loops ++ loops (sym (row_length f.rows (row_of (n + 1) a b)) i) cs;
+    rows = append_assoc f.rows (row_of (n + 1) a b ∷ []) (rows cs) i;
     count = mul_assoc f.count (n + 1) (ended cs) i;
   }
 
   with_one : extended (with_chain false true f n a b c) cs ≡ extended f (one n a b c ∷ cs)
   unfolding with_chain loops rows ended
-  with_one = λ i. record { loops = append_assoc f.loops ((n + 1) ∷ 24 ∷ a ∷ b ∷ c ∷ []) (loops (length f.rows) cs) i; rows = f.rows ++ rows cs; count = f.count * ended cs }
+  with_one = λ i. record { loops = append_assoc f.loops (loop_of (n + 1) None a b c ∷ []) (loops (length f.rows) cs) i; rows = f.rows ++ rows cs; count = f.count * ended cs }
 
   with_still : (x : ℕ) → extended (with_chain false false f n a b c) cs ≡ extended f (still x ∷ cs)
   unfolding with_chain loops rows ended
@@ -114,17 +115,6 @@ module _ (n a b c : ℕ) (cs : List Chain) where
   chain_own Meet.shared h = omega arith
   chain_own Meet.closed h = omega arith
 
-  chain_few : {l r j : Coverage} (t : Meet l r j) → length (rows (chain t n a b c ∷ cs)) ≤ length (rows cs) + 3
-  unfolding chain rows
-  chain_few (Meet.left finished) = omega arith
-  chain_few (Meet.left partial) = omega arith
-  chain_few (Meet.left absent) = omega arith
-  chain_few (Meet.right finished) = omega arith
-  chain_few (Meet.right partial) = omega arith
-  chain_few (Meet.right absent) = omega arith
-  chain_few Meet.shared = omega arith
-  chain_few Meet.closed = omega arith
-
   chain_pairs : {l r j : Coverage} (t : Meet l r j) → n ≤ 15 → ended (chain t n a b c ∷ cs) * most (chain t n a b c ∷ cs) ≤ 16 * (ended cs * most cs)
   unfolding chain ended most
   chain_pairs t h = by t (mul-le-mul_right (ended cs * most cs) (room n h))
@@ -146,12 +136,11 @@ pub record Low (ls rs js : List Coverage) (N : List ℕ) (cs : List Chain) : Typ
   pub left : more_left cs < cells (zip_with span ls N)
   pub right : more_right cs < cells (zip_with span rs N)
   pub own : more_own cs < cells (zip_with span js N)
-  pub few : length (rows cs) ≤ 3 * length N
   pub pairs : ended cs * most cs ≤ 16 ^ length N
 
 pub chains_low : {ls rs js : List Coverage} (ts : Meets ls rs js) (N : List ℕ) → length js ≡ length N → ((k : ℕ) → get_or N k 0 ≤ 15) → Low ls rs js N (chains ts N)
 unfolding chains zip_with cells more_left more_right more_own rows ended most
-chains_low Meets.none [] e h = record { left = le_refl 1; right = le_refl 1; own = le_refl 1; few = omega arith; pairs = le_refl 1 }
+chains_low Meets.none [] e h = record { left = le_refl 1; right = le_refl 1; own = le_refl 1; pairs = le_refl 1 }
 chains_low Meets.none (n ∷ N) e h = absurd (omega arith)
 chains_low (Meets.more t ts) [] e h = absurd (omega arith)
 chains_low (Meets.more {ls = ls} {rs = rs} {js = js} t ts) (n ∷ N) e h =
@@ -163,6 +152,5 @@ chains_low (Meets.more {ls = ls} {rs = rs} {js = js} t ts) (n ∷ N) e h =
       left = chain_left n a b c (chains ts N) t k.left;
       right = chain_right n a b c (chains ts N) t k.right;
       own = chain_own n a b c (chains ts N) t k.own;
-      few = omega (arith, chain_few n a b c (chains ts N) t, k.few);
       pairs = le_trans (chain_pairs n a b c (chains ts N) t (h 0)) (rw (pow-suc 16 (length N)) (omega (arith, k.pairs)));
     }

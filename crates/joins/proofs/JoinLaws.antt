@@ -1,25 +1,28 @@
--- A join of a network: the flat lists of its windows and strides are sound, and walking them is walking the network's own pairs of the join.
-use Prim.Native.Nat.{ℕ, suc, ◌+◌, ◌-◌, ◌*◌, ◌^◌, ◌≤◌, ◌<◌}
+-- A join of a network: the lists of its windows and strides are sound, and walking them is walking the network's own pairs of the join.
+use Prim.Native.Nat.{ℕ, suc, ◌+◌, ◌*◌, ◌^◌, ◌≤◌, ◌<◌}
 use mathlib.Core.Path.{◌≡◌, refl, sym, ap, subst, ◌∙◌, fun_ext}
 use mathlib.Core.List.{List, [], ◌∷◌, map, map-map, flat_map, zip_with}
-use native.Mathlib.Nat.{pow-le-pow_right, zero-add, one-mul, sub-zero}
+use native.Mathlib.Nat.{pow-le-pow_right, zero-add, one-mul}
 use native.Mathlib.Omega.{arith}
-use lib.ListN.{length, take, drop}
+use lib.ListN.{length, take}
 use Rattle.network.specs.Coverage.{Coverage, Tree, join, coverages}
 use Rattle.network.specs.Cells.{Span, indices, span, strides, along, spans_at, all_cells, cell_of}
 use Rattle.network.specs.Pairs.{Pair, index_pairs, own_pairs}
 use Rattle.network.proofs.CoverageLaws.{Meets, meets}
 use Rattle.network.proofs.NodeLaws.{coverages-length, spans_length}
 use Rattle.network.proofs.AreaLaws.{base_is, base-join, base_room}
+use Rattle.cellsums.specs.Places.{reach_left, reach_right}
+use Rattle.cellsums.specs.declared.Row.{Row}
 use Rattle.joins.specs.Loops.{pair_at, cell_pairs, loop_pairs, Sound}
 use Rattle.joins.specs.Walk.{State, walk}
 use Rattle.joins.specs.Flat.{add_chains, flat, nothing}
 use Rattle.joins.specs.Join.{JoinOf}
 use Rattle.joins.specs.declared.Join.{Join}
+use Rattle.joins.specs.declared.Loop.{Loop}
 use Rattle.joins.specs.declared.Used.{Used}
 use Rattle.joins.proofs.ChainLaws.{Chain, own_stride, loops, rows, loops_list, pairs_of}
 use Rattle.joins.proofs.MeetLaws.{chains, chains-span, chains-stride, chains-places, placed}
-use Rattle.joins.proofs.SoundLaws.{flat_rows, pairs_in, last_left, last_right, ended, Parts, Bounds, chains_sound}
+use Rattle.joins.proofs.SoundLaws.{pairs_in, ended, Parts, Bounds, chains_sound}
 use Rattle.joins.proofs.FlatLaws.{Low, chains_low, chains_flat}
 
 pub length-strides : (ss : List Span) → length (strides ss) ≡ length ss
@@ -49,9 +52,6 @@ module _ {windows lefts rights owns : List ℕ} {parts : Join} {size : ℕ} (j :
   low : Low ls rs js windows cs
   unfolding cs
   low = chains_low met windows same_length j.messages
-
-  few : length (rows cs) ≤ 24
-  few = omega (arith, low.few, j.chains)
 
   -- ---- what the code builds
 
@@ -86,7 +86,7 @@ module _ {windows lefts rights owns : List ℕ} {parts : Join} {size : ℕ} (j :
       }
 
   bounds : Bounds parts [] cs 0 0 0 (1 * ended cs)
-  unfolding last_left last_right pairs_in flat_rows spans_at
+  unfolding reach_left reach_right pairs_in spans_at
   bounds =
       let p : 16 ^ length windows ≤ 16 ^ 8 = pow-le-pow_right {n = 16} (omega arith) j.chains in
       record {
@@ -95,11 +95,9 @@ module _ {windows lefts rights owns : List ℕ} {parts : Join} {size : ℕ} (j :
         own_last = omega (arith, low.own, base_is j.routes windows (join j.left j.right) j.start, j.own_from, j.own_to);
         counted = refl;
         count_low = rw (one-mul (ended cs)) (omega (arith, low.pairs, p));
-        few = omega (arith, few);
       }
 
   pub own_sound : size < 2 ^ 64 → Sound size parts (add_chains nothing windows lefts rights owns).loops (add_chains nothing windows lefts rights owns).rows 0 0 0 (add_chains nothing windows lefts rights owns).count
-  unfolding flat_rows
   own_sound h = subst (λ f. Sound size parts f.loops f.rows 0 0 0 f.count) (sym built) (chains_sound size parts (parts_lie h) cs [] 0 0 0 (1 * ended cs) bounds)
 
   -- ---- and they list its own pairs
@@ -122,17 +120,14 @@ module _ {windows lefts rights owns : List ℕ} {parts : Join} {size : ℕ} (j :
   unfolding own_pairs numbered spans_at cs
   own_list =
       (λ i. loop_pairs parts (built i).loops (built i).rows 0 0 0)
-      ∙ loops_list parts cs [] 0 0 0 (omega (arith, few))
+      ∙ loops_list parts cs [] 0 0 0
       ∙ (λ i. flat_map (λ v. index_pairs_lem v i) (indices (chains-span met windows i)))
 
   -- ---- the same of the used parts of the two arrays
 
-  module _ (u : Used) (L R : List ℕ) (e : flat u L R ≡ add_chains nothing windows lefts rights owns) where
-    used : (xs : List ℕ) (n : ℕ) → take (n - 0) (drop 0 xs) ≡ take n xs
-    used xs n = rw (sub-zero n)
+  module _ (u : Used) (L : List Loop) (R : List Row) (e : flat u L R ≡ add_chains nothing windows lefts rights owns) where
+    pub used_sound : size < 2 ^ 64 → Sound size parts (take u.loops L) (take u.rows R) 0 0 0 u.count
+    used_sound h = subst (λ f. Sound size parts f.loops f.rows 0 0 0 f.count) (sym e) (own_sound h)
 
-    pub used_sound : size < 2 ^ 64 → Sound size parts (take (u.loops - 0) (drop 0 L)) (take (u.rows - 0) (drop 0 R)) 0 0 0 u.count
-    used_sound h = rw (used L u.loops, used R u.rows) (subst (λ f. Sound size parts f.loops f.rows 0 0 0 f.count) (sym e) (own_sound h))
-
-    pub used-walk : (s s' : State) → s' ≡ walk (loop_pairs parts (take (u.loops - 0) (drop 0 L)) (take (u.rows - 0) (drop 0 R)) 0 0 0) s → s' ≡ walk (own_pairs j.routes windows j.left j.right j.start) s
-    used-walk s s' d = d ∙ ap (λ ps. walk ps s) ((λ i. loop_pairs parts ((used L u.loops ∙ ap (λ f. f.loops) e) i) ((used R u.rows ∙ ap (λ f. f.rows) e) i) 0 0 0) ∙ own_list)
+    pub used-walk : (s s' : State) → s' ≡ walk (loop_pairs parts (take u.loops L) (take u.rows R) 0 0 0) s → s' ≡ walk (own_pairs j.routes windows j.left j.right j.start) s
+    used-walk s s' d = d ∙ ap (λ ps. walk ps s) ((λ i. loop_pairs parts (e i).loops (e i).rows 0 0 0) ∙ own_list)

@@ -3,6 +3,7 @@ pub mod PartLaws
 pub mod PairLaws
 pub mod CellLaws
 pub mod TurnLaws
+pub mod CountLaws
 pub mod LoopLaws
 pub mod ChainLaws
 pub mod MeetLaws

@@ -1,5 +1,5 @@
 -- A join's chains from how their coverages meet. By cases on the meeting: the chains have the join's spans and strides, their rows list the
--- places of the network's index pairs, and the flat lists that the code builds from windows and strides are theirs.
+-- places of the network's index pairs, and the lists that the code builds from windows and strides are theirs.
 use Prim.Native.Nat.{ℕ, zero, suc, ◌+◌, ◌-◌, ◌*◌}
 use mathlib.Core.Path.{◌≡◌, refl, sym, ap, ◌∙◌, fun_ext}
 use mathlib.Core.List.{List, [], ◌∷◌, map, map-map, flat_map, zip_with, append-nil}
@@ -14,6 +14,7 @@ use Rattle.network.specs.Pairs.{chain_pairs, index_pairs}
 use Rattle.network.proofs.CoverageLaws.{Meet, Meets}
 use Rattle.cellsums.specs.Places.{places}
 use Rattle.joins.proofs.TurnLaws.{map_flat}
+use Rattle.joins.proofs.CountLaws.{row_of}
 use Rattle.joins.proofs.ChainLaws.{Chain, both, ends, one, still, span_of, own_stride, rows_at, left_at, right_at, flat_map-map}
 
 -- by the cells of the later chains in the left child, in the right one and at the join
@@ -122,7 +123,7 @@ module _ (cs : List Chain) (v : List ℕ) where
   later l r = places (rows_at cs v) (left_at cs v l) (right_at cs v r)
 
   -- over the index pairs of one chain: a row where it is shared
-  over_splits : (i a b l r : ℕ) → flat_map (λ (p : ℕ × ℕ). later (l + a * p.0) (r + b * p.1)) (splits i) ≡ places ((i + 1) ∷ a ∷ b ∷ rows_at cs v) (left_at cs v l) (right_at cs v r)
+  over_splits : (i a b l r : ℕ) → flat_map (λ (p : ℕ × ℕ). later (l + a * p.0) (r + b * p.1)) (splits i) ≡ places (row_of (i + 1) a b ∷ rows_at cs v) (left_at cs v l) (right_at cs v r)
   unfolding places
   over_splits i a b l r =
       ap (flat_map (λ (p : ℕ × ℕ). later (l + a * p.0) (r + b * p.1))) (splits-from i)

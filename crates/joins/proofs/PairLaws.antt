@@ -25,7 +25,7 @@ module _ (join : Join) (l r t : ℕ) (q : Quota) (A : List ℕ) where
   unfolding walk cell_pairs places step
   pair_over h = rw h
 
-  pub pair_skipped : q.over ≡ false → 0 < q.skip → record { skip = q.skip - 1; budget = q.budget; over = false; area = A } ≡ walk (cell_pairs join [] l r t) (state q A)
+  pub pair_skipped : q.over ≡ false → 0 < q.skip → record { skip = q.skip - 1; budget = q.budget; over = q.over; area = A } ≡ walk (cell_pairs join [] l r t) (state q A)
   unfolding walk cell_pairs places step
   pair_skipped h k = let e : q.skip ≡ suc (q.skip - 1) = omega arith in rw h (go q.skip (q.skip - 1) e)
     where
@@ -54,18 +54,20 @@ module _ (n : ℕ) (join : Join) (l r t x : ℕ) (q : Quota) (A : List ℕ) (i :
       go b c e = rw e
 
   pub pair_added : (v : ℕ) (own : List ℕ) → own ≡ set (cells_in A join.own) t v → capped (x + sum_over (places [] l r) (product A join.left join.right)) ≡ Some v
-      → record { skip = 0; budget = q.budget - 1; over = false; area = put_mid join.own.from (join.own.to - join.own.from) A own } ≡ walk (cell_pairs join [] l r t) (state q A)
+      → record { skip = q.skip; budget = q.budget - 1; over = q.over; area = put_mid join.own.from (join.own.to - join.own.from) A own } ≡ walk (cell_pairs join [] l r t) (state q A)
   unfolding attempt add pair_at
   pair_added v own eo e =
       let told = exact_says e in
       let w : v ≡ sum_at A (pair_at join t (l, r)) = told.is ∙ sum_is in
-      rw (attempted, eo, put_set A join.own.from join.own.to t v i.own_at, w) (fits (sum_at A (pair_at join t (l, r))) refl (omega (arith, told.low, sum_is)))
+      let none : q.skip ≡ 0 = omega arith in
+      rw (attempted, eo, put_set A join.own.from join.own.to t v i.own_at, w, h, none) (fits (sum_at A (pair_at join t (l, r))) refl (omega (arith, told.low, sum_is)))
     where
       fits : (y : ℕ) → y ≡ sum_at A (pair_at join t (l, r)) → y < 2 ^ 64 → record { skip = 0; budget = q.budget - 1; over = false; area = set A (join.own.from + t) y } ≡ attempt (ltb y (2 ^ 64)) (q.budget - 1) (pair_at join t (l, r)) A
       fits y e h = rw (lt-ltb y (2 ^ 64) h, e)
 
-  pub pair_too_large : capped (x + sum_over (places [] l r) (product A join.left join.right)) ≡ None → record { skip = 0; budget = q.budget; over = true; area = A } ≡ walk (cell_pairs join [] l r t) (state q A)
+  pub pair_too_large : capped (x + sum_over (places [] l r) (product A join.left join.right)) ≡ None → record { skip = q.skip; budget = q.budget; over = true; area = A } ≡ walk (cell_pairs join [] l r t) (state q A)
   unfolding attempt
   pair_too_large e =
       let f : q.budget ≡ suc (q.budget - 1) = omega (arith, z) in
-      rw (attempted, le-ltb (sum_at A (pair_at join t (l, r))) (2 ^ 64) (omega (arith, large_says e, sum_is))) (ap (λ b. record { skip = 0; budget = b; over = true; area = A }) f)
+      let none : q.skip ≡ 0 = omega arith in
+      rw (attempted, none, le-ltb (sum_at A (pair_at join t (l, r))) (2 ^ 64) (omega (arith, large_says e, sum_is))) (ap (λ b. record { skip = 0; budget = b; over = true; area = A }) f)

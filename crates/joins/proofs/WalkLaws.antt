@@ -1,12 +1,14 @@
 -- Walks: over two lists one after the other; over a list that is all skipped; after the end; and what `spend` has to do with them. By
 -- induction over the pairs.
 use Prim.Native.Nat.{ℕ, zero, suc, ◌+◌, ◌-◌, ◌^◌, ◌≤◌}
-use mathlib.Core.Path.{◌≡◌, refl, sym, ap, ◌∙◌}
-use mathlib.Core.Bool.{Bool, true, false, true≢false}
+use mathlib.Core.Path.{◌≡◌, refl, ap, ◌∙◌}
+use mathlib.Core.Bool.{Bool, true, false, ◌&&◌}
 use mathlib.Core.List.{List, [], ◌∷◌, ◌++◌}
 use native.Mathlib.Nat.{sub-zero, not-suc-le-zero, le_of_suc-le-suc}
 use native.Mathlib.Omega.{arith}
 use lib.Dec.{ltb}
+use Rattle.std.specs.Prelude.{◌==◌}
+use Rattle.std.proofs.lemmas.Bool.Decides.{nat_tests}
 use lib.ListN.{length, take, drop}
 use Rattle.sums.specs.Choice.{choose}
 use Rattle.network.specs.Pairs.{Pair}
@@ -31,15 +33,15 @@ walk_spent [] A = refl
 walk_spent (p ∷ ps) A = walk_spent ps A
 
 -- either way
+spent : (k b : ℕ) → (k == 0 && b == 0) ≡ true → (k ≡ 0) × (b ≡ 0)
+spent k b h = grind (arith, nat_tests)
+
 pub walk-ended : (ps : List Pair) (s : State) → ended s.over s.skip s.budget ≡ true → walk ps s ≡ s
-unfolding ended
 walk-ended ps s h = by s.over s.skip s.budget h
   where
     by : (o : Bool) (k b : ℕ) → ended o k b ≡ true → walk ps (record { skip = k; budget = b; over = o; area = s.area }) ≡ record { skip = k; budget = b; over = o; area = s.area }
     by true k b e = walk_over ps k b s.area
-    by false (suc k) b e = absurd (true≢false (sym e))
-    by false zero (suc b) e = absurd (true≢false (sym e))
-    by false zero zero e = walk_spent ps s.area
+    by false k b e = let z = spent k b e in rw (z.0, z.1) (walk_spent ps s.area)
 
 -- pairs that are all to be skipped are passed over by their number
 pub walk_past : (ps : List Pair) (k b : ℕ) (A : List ℕ) → length ps ≤ k → walk ps (record { skip = k; budget = b; over = false; area = A }) ≡ record { skip = k - length ps; budget = b; over = false; area = A }

@@ -1,5 +1,5 @@
 -- A walk over pairs: some are skipped, then as many are added as the budget has; a pair that would make its cell reach 2^64 ends the walk.
-use Rattle.std.specs.Prelude.{ℕ, zero, suc, ◌+◌, ◌^◌, Bool, true, false, List, [], ◌∷◌, ltb}
+use Rattle.std.specs.Prelude.{ℕ, zero, suc, ◌^◌, Bool, true, false, ◌||◌, ◌&&◌, ◌==◌, List, [], ◌∷◌, ltb}
 use Rattle.network.specs.Pairs.{Pair}
 use Rattle.network.specs.Run.{sum_at, add}
 use Rattle.joins.specs.declared.Quota.{Quota}
@@ -32,13 +32,5 @@ walk [] s = s
 walk (p ∷ ps) s = walk ps (step s.over s.skip s.budget p s.area)
 
 -- a walk that no pair changes any more: one has ended it, or none is left to skip and the budget is spent
-unfoldable pub ended : Bool → ℕ → ℕ → Bool
-ended true skip budget = true
-ended false (suc skip) budget = false
-ended false zero (suc budget) = false
-ended false zero zero = true
-
--- the turn of a loop of n after the i-th; past the last where the walk has ended
-unfoldable pub next_turn : Bool → ℕ → ℕ → ℕ
-next_turn true i n = n
-next_turn false i n = i + 1
+abbrev pub ended : Bool → ℕ → ℕ → Bool
+ended over skip budget = over || (skip == 0 && budget == 0)

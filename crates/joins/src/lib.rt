@@ -4,12 +4,12 @@
 mod flat;
 mod walks;
 
-ghost use Rattle.std.specs.Prelude.{◌≡◌, ◌<◌, length};
+ghost use Rattle.std.specs.Prelude.{◌≡◌, length};
 ghost use Rattle.network.specs.Pairs.{own_pairs};
-ghost use Rattle.joins.specs.Walk.{state, walk, ended, next_turn};
+ghost use Rattle.joins.specs.Walk.{state, walk, ended};
 ghost use Rattle.joins.specs.Join.{JoinOf};
 
-use cellsums::Part;
+use cellsums::{Part, Row};
 
 // The cells of the two children and the join's own.
 #[derive(Clone, Copy)]
@@ -19,11 +19,11 @@ pub struct Join {
     pub own: Part,
 }
 
-// A chain that is partial at the result: its window and one, the place of its row's count, and its strides.
+// A chain that is partial at the result: its window and one, its row if it is shared, and its strides.
 #[derive(Clone, Copy)]
 pub struct Loop {
     pub count: usize,
-    pub row: usize,
+    pub row: Option<usize>,
     pub left: usize,
     pub right: usize,
     pub own: usize,
@@ -38,12 +38,21 @@ pub struct Turn {
     pub count: usize,
 }
 
-// How many pairs are still to be skipped and to be added, and whether a pair ended the walk.
+// How many pairs are still to be skipped and to be added, and whether a pair ended the walk: all three are read after the end, since a walk
+// that is over has a budget left.
 #[derive(Clone, Copy)]
 pub struct Quota {
     pub skip: usize,
     pub budget: usize,
     pub over: bool,
+}
+
+// No pair changes the walk any more: one has ended it, or none is left to skip and the budget is spent. The quota comes field by field, to
+// stay in registers.
+pub fn ended(over: bool, skip: usize, budget: usize) -> bool
+    ensures { result ≡ ended over skip budget }
+{
+    over || skip == 0 && budget == 0
 }
 
 // How much of the arrays of loops and rows is used, and how many pairs the first result cell has.
@@ -54,24 +63,8 @@ pub struct Used {
     pub count: usize,
 }
 
-// A loop's turn after the i-th of n: a walk that has ended leaves the loop. The quota comes field by field, to stay in registers.
-pub fn next(i: usize, n: usize, over: bool, skip: usize, budget: usize) -> usize
-    requires { i < n }
-    ensures { result ≡ next_turn (ended over skip budget) i n }
-{
-    if over {
-        return n;
-    }
-    if 0 < skip {
-        return i + 1;
-    }
-    if 0 < budget {
-        return i + 1;
-    }
-    n
-}
-
-// The pairs of one join of a network, from its windows, the strides of the children and the join, and where their cells lie.
+// The pairs of one join of a network, from its windows, the strides of the children and the join, and where their cells lie. The strides lie
+// in three entries of the table: one list of chains would be a copy of them for each join.
 pub fn walk_join(
     area: &mut [u64],
     windows: &[usize],
@@ -84,21 +77,31 @@ pub fn walk_join(
     requires { JoinOf windows.now left.now right.now own.now parts (length area.old) }
     ensures { (j : JoinOf windows.now left.now right.now own.now parts (length area.old)) → state result area.new ≡ walk (own_pairs j.routes windows.now j.left j.right j.start) (state q area.old) }
 {
-    let mut loops = [0usize; 40];
-    let mut rows = [0usize; 24];
+    let mut loops = [Loop {
+        count: 0,
+        row: None,
+        left: 0,
+        right: 0,
+        own: 0,
+    }; 8];
+    let mut rows = [Row {
+        count: 0,
+        left: 0,
+        right: 0,
+    }; 8];
     let used = flat::flatten(&mut loops, &mut rows, windows, left, right, own);
-    let n = used.loops;
-    let m = used.rows;
-    let count = used.count;
+    let at = Turn {
+        left: 0,
+        right: 0,
+        own: 0,
+        count: used.count,
+    };
     walks::walk_loops(
         area,
         parts,
-        &loops[0..n],
-        &mut rows[0..m],
-        0,
-        0,
-        0,
-        count,
+        &loops[..used.loops],
+        &mut rows[..used.rows],
+        at,
         q,
     )
 }

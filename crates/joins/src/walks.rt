@@ -1,28 +1,17 @@
 // The walk over a join's pairs, cell by cell: what is skipped is counted, and what the budget has is added.
-ghost use Rattle.std.specs.Prelude.{◌≡◌, [], ◌<◌, ◌^◌, ltb, length, get_or, set};
+ghost use Rattle.std.specs.Prelude.{◌≡◌, [], ◌∷◌, ◌<◌, length, set};
 ghost use Rattle.cellsums.specs.Places.{places};
-ghost use Rattle.joins.specs.Walk.{state, walk, quota};
-ghost use Rattle.joins.specs.Loops.{cell_pairs, loop_then, first_loop, loop_pairs, Inside, times as times_of, turn_at, Numbers, Sound};
+ghost use Rattle.joins.specs.Walk.{state, walk};
+ghost use Rattle.joins.specs.Loops.{cell_pairs, loop_pairs, Inside, turn_at, with_count, HasRow, Numbers, Sound};
 
-use crate::{Join, Loop, Quota, Turn, next};
-use cellsums::Part;
+use crate::{Join, Loop, Quota, Turn, ended};
+use cellsums::{Part, Row};
 
 fn put(own: &mut [u64], i: usize, v: u64)
     requires { i < length own.old }
     ensures { own.new ≡ set own.old i v }
 {
     own[i] = v;
-}
-
-// What is left to skip and to add.
-fn remaining(skip: usize, budget: usize, over: bool) -> Quota
-    ensures { result ≡ quota skip budget over }
-{
-    Quota {
-        skip: skip,
-        budget: budget,
-        over: over,
-    }
 }
 
 // One pair: the children lent for reading, then the join's own cells lent on to be written.
@@ -34,23 +23,24 @@ fn walk_pair(area: &mut [u64], join: Join, l: usize, r: usize, t: usize, q: Quot
         return q;
     }
     if 0 < q.skip {
-        return remaining(q.skip - 1, q.budget, false);
+        return Quota {
+            skip: q.skip - 1,
+            ..q
+        };
     }
     if q.budget == 0 {
         return q;
     }
-    let left = join.left;
-    let right = join.right;
-    let own = join.own;
-    let t0 = own.from;
-    let t1 = own.to;
-    let x = cellsums::cell(&area[t0..t1], t);
-    match cellsums::add_pair(area, left, right, l, r, x) {
+    let x = cellsums::cell(&area[join.own.from..join.own.to], t);
+    match cellsums::add_pair(area, join.left, join.right, l, r, x) {
         Some(v) => {
-            put(&mut area[t0..t1], t, v);
-            remaining(0, q.budget - 1, false)
+            put(&mut area[join.own.from..join.own.to], t, v);
+            Quota {
+                budget: q.budget - 1,
+                ..q
+            }
         }
-        None => remaining(0, q.budget, true),
+        None => Quota { over: true, ..q },
     }
 }
 
@@ -58,7 +48,7 @@ fn walk_pair(area: &mut [u64], join: Join, l: usize, r: usize, t: usize, q: Quot
 fn walk_rows(
     area: &mut [u64],
     join: Join,
-    rows: &[usize],
+    rows: &[Row],
     l: usize,
     r: usize,
     t: usize,
@@ -67,237 +57,202 @@ fn walk_rows(
     requires { Inside (length area.old) join rows.now l r t }
     ensures { state result area.new ≡ walk (cell_pairs join rows.now l r t) (state q area.old) }
 {
-    if rows.len() < 3 {
+    let [row, others @ ..] = rows else {
         return walk_pair(area, join, l, r, t, q);
-    }
-    let n = rows[0];
-    let a = rows[1];
-    let b = rows[2];
+    };
     let mut e = q;
-    let mut j: usize = 0;
-    while j < n {
-        e = walk_rows(area, join, &rows[3..], l + j * a, r + (n - 1 - j) * b, t, e);
-        j = next(j, n, e.over, e.skip, e.budget);
+    for j in 0..row.count {
+        let k = row.count - 1 - j;
+        e = walk_rows(
+            area,
+            join,
+            others,
+            l + j * row.left,
+            r + k * row.right,
+            t,
+            e,
+        );
+        if ended(e.over, e.skip, e.budget) {
+            break;
+        }
     }
     e
 }
 
-// A join anew, field by field.
-fn copied(join: Join) -> Join
-    ensures { result ≡ join }
+// A quota anew, field by field: a copy of the whole takes the struct's padding along, through memory.
+fn copied(q: Quota) -> Quota
+    ensures { result ≡ q }
 {
-    let left = join.left;
-    let right = join.right;
-    let own = join.own;
-    Join {
-        left: Part {
-            from: left.from,
-            to: left.to,
-        },
-        right: Part {
-            from: right.from,
-            to: right.to,
-        },
-        own: Part {
-            from: own.from,
-            to: own.to,
-        },
+    Quota {
+        skip: q.skip,
+        budget: q.budget,
+        over: q.over,
     }
 }
 
-// The same as walk_rows, over copies: what a call takes by address stays in memory, and the loop over the cells is to keep its own in
-// registers.
-fn one_by_one(
-    area: &mut [u64],
-    join: Join,
-    rows: &[usize],
-    l: usize,
-    r: usize,
-    t: usize,
-    q: Quota,
-) -> Quota
-    requires { Inside (length area.old) join rows.now l r t }
-    ensures { state result area.new ≡ walk (cell_pairs join rows.now l r t) (state q area.old) }
+// The same as walk_rows, over copies made field by field: what a call takes by address stays in memory, and the loop over the cells is to
+// keep its own in registers. Without them a run of small cells took a sixth longer.
+fn one_by_one(area: &mut [u64], join: Join, rows: &[Row], at: Turn, q: Quota) -> Quota
+    requires { Inside (length area.old) join rows.now at.left at.right at.own }
+    ensures { state result area.new ≡ walk (cell_pairs join rows.now at.left at.right at.own) (state q area.old) }
 {
-    let copy = remaining(q.skip, q.budget, q.over);
-    let e = walk_rows(area, copied(join), rows, l, r, t, copy);
-    remaining(e.skip, e.budget, e.over)
+    let parts = Join {
+        left: Part {
+            from: join.left.from,
+            to: join.left.to,
+        },
+        right: Part {
+            from: join.right.from,
+            to: join.right.to,
+        },
+        own: Part {
+            from: join.own.from,
+            to: join.own.to,
+        },
+    };
+    copied(walk_rows(area, parts, rows, at.left, at.right, at.own, copied(q)))
 }
 
 // The pairs of a cell: passed over by their number, or summed at once; one by one where skip or budget ends among them or a sum does not
 // fit.
-fn walk_cell(
-    area: &mut [u64],
-    join: Join,
-    rows: &[usize],
-    l: usize,
-    r: usize,
-    t: usize,
-    count: usize,
-    q: Quota,
-) -> Quota
-    requires inside { Inside (length area.old) join rows.now l r t }
-    requires counted { count ≡ length (places rows.now l r) }
-    ensures { state result area.new ≡ walk (cell_pairs join rows.now l r t) (state q area.old) }
+#[inline(always)]
+fn walk_cell(area: &mut [u64], join: Join, rows: &[Row], at: Turn, q: Quota) -> Quota
+    requires inside { Inside (length area.old) join rows.now at.left at.right at.own }
+    requires counted { at.count ≡ length (places rows.now at.left at.right) }
+    ensures { state result area.new ≡ walk (cell_pairs join rows.now at.left at.right at.own) (state q area.old) }
 {
     if q.over {
         return q;
     }
-    if count <= q.skip {
-        return remaining(q.skip - count, q.budget, false);
+    if at.count <= q.skip {
+        return Quota {
+            skip: q.skip - at.count,
+            ..q
+        };
     }
     if 0 < q.skip {
-        return one_by_one(area, join, rows, l, r, t, q);
+        return one_by_one(area, join, rows, at, q);
     }
-    if q.budget < count {
-        return one_by_one(area, join, rows, l, r, t, q);
+    if q.budget < at.count {
+        return one_by_one(area, join, rows, at, q);
     }
-    let left = join.left;
-    let right = join.right;
-    let own = join.own;
-    let t0 = own.from;
-    let t1 = own.to;
-    let x = cellsums::cell(&area[t0..t1], t);
-    match cellsums::cell_sum(area, left, right, rows, l, r, x) {
+    let x = cellsums::cell(&area[join.own.from..join.own.to], at.own);
+    match cellsums::cell_sum(area, join.left, join.right, rows, at.left, at.right, x) {
         Some(v) => {
-            put(&mut area[t0..t1], t, v);
-            remaining(0, q.budget - count, false)
+            put(&mut area[join.own.from..join.own.to], at.own, v);
+            Quota {
+                budget: q.budget - at.count,
+                ..q
+            }
         }
-        None => one_by_one(area, join, rows, l, r, t, q),
+        None => one_by_one(area, join, rows, at, q),
     }
 }
 
-// What stands at a place, 0 past the end.
-fn value_at(rows: &[usize], p: usize) -> usize
-    ensures { result ≡ get_or rows.now p 0 }
+// The cell of a join that has no loop, apart, so that walk_cell is inlined once in the loop over the cells.
+#[inline(never)]
+fn walk_alone(area: &mut [u64], join: Join, rows: &[Row], at: Turn, q: Quota) -> Quota
+    requires inside { Inside (length area.old) join rows.now at.left at.right at.own }
+    requires counted { at.count ≡ length (places rows.now at.left at.right) }
+    ensures { state result area.new ≡ walk (cell_pairs join rows.now at.left at.right at.own) (state q area.old) }
 {
-    if p < rows.len() { rows[p] } else { 0 }
+    walk_cell(area, join, rows, at, q)
 }
 
-// Writes at a place, nothing past the end.
-fn set_at(rows: &mut [usize], p: usize, v: usize)
-    ensures { rows.new ≡ set rows.old p v }
+// The pairs that a loop's row has; 0 where it has none.
+fn count_in(rows: &[Row], row: Option<usize>) -> usize
+    requires { HasRow row rows.now }
+    ensures { with_count rows.now row result ≡ rows.now }
 {
-    if p < rows.len() {
-        rows[p] = v;
+    match row {
+        Some(p) => rows[p].count,
+        None => 0,
     }
 }
 
-fn times(count: usize, p: usize, len: usize, n: usize) -> usize
-    requires { times_of (ltb p len) count n < 2 ^ 64 }
-    ensures { result ≡ times_of (ltb p len) count n }
+// Has a loop's row have n pairs, if there is one.
+fn set_count(rows: &mut [Row], row: Option<usize>, n: usize)
+    requires { HasRow row rows.old }
+    ensures { rows.new ≡ with_count rows.old row n }
 {
-    if p < len { count * n } else { count }
-}
-
-// A loop's i-th turn.
-fn turn_at(one: Loop, len: usize, l: usize, r: usize, t: usize, count: usize, i: usize) -> Turn
-    requires turn_left { i < one.count }
-    requires numbers { Numbers (turn_at one len l r t count i) }
-    ensures { result ≡ turn_at one len l r t count i }
-{
-    Turn {
-        left: l + i * one.left,
-        right: r + i * one.right,
-        own: t + i * one.own,
-        count: times(count, one.row, len, i + 1),
+    if let Some(p) = row {
+        rows[p].count = n;
     }
 }
 
-// The last loop. Its row's count is written for each i, and restored.
+impl Loop {
+    // The i-th turn, from where the loop begins.
+    fn turn(self, at: Turn, i: usize) -> Turn
+        requires turn_left { i < self.count }
+        requires numbers { Numbers (turn_at self at.left at.right at.own at.count i) }
+        ensures { result ≡ turn_at self at.left at.right at.own at.count i }
+    {
+        let count = match self.row {
+            Some(_) => at.count * (i + 1),
+            None => at.count,
+        };
+        Turn {
+            left: at.left + i * self.left,
+            right: at.right + i * self.right,
+            own: at.own + i * self.own,
+            count,
+        }
+    }
+}
+
+// The last loop: one cell a turn. Its row's count is written for each i, and restored. Beside walk_loops, since with a call of that for each
+// cell a run of small cells took a sixth longer.
 fn walk_last(
     area: &mut [u64],
     join: Join,
     last: Loop,
-    rows: &mut [usize],
-    l: usize,
-    r: usize,
-    t: usize,
-    count: usize,
+    rows: &mut [Row],
+    at: Turn,
     q: Quota,
 ) -> Quota
-    requires { Sound (length area.old) join (loop_then last []) rows.old l r t count }
-    ensures { (state result area.new ≡ walk (loop_pairs join (loop_then last []) rows.old l r t) (state q area.old)) × (rows.new ≡ rows.old) }
+    requires { Sound (length area.old) join (last ∷ []) rows.old at.left at.right at.own at.count }
+    ensures { (state result area.new ≡ walk (loop_pairs join (last ∷ []) rows.old at.left at.right at.own) (state q area.old)) × (rows.new ≡ rows.old) }
 {
-    let n = last.count;
-    let p = last.row;
-    let len = rows.len();
-    let old = value_at(rows, p);
+    let old = count_in(rows, last.row);
     let mut e = q;
-    let mut i: usize = 0;
-    while i < n {
-        set_at(rows, p, i + 1);
-        let at = turn_at(last, len, l, r, t, count, i);
-        e = walk_cell(area, join, rows, at.left, at.right, at.own, at.count, e);
-        i = next(i, n, e.over, e.skip, e.budget);
+    for i in 0..last.count {
+        set_count(rows, last.row, i + 1);
+        e = walk_cell(area, join, rows, last.turn(at, i), e);
+        if ended(e.over, e.skip, e.budget) {
+            break;
+        }
     }
-    set_at(rows, p, old);
-    e
+    set_count(rows, last.row, old);
+    copied(e)
 }
 
-// The first loop. Where there is none, a dummy loop of one whose row lies past the end.
-fn first_loop(loops: &[usize], past: usize) -> Loop
-    ensures { result ≡ first_loop loops.now past }
-{
-    if loops.len() < 5 {
-        return Loop {
-            count: 1,
-            row: past,
-            left: 0,
-            right: 0,
-            own: 0,
-        };
-    }
-    Loop {
-        count: loops[0],
-        row: loops[1],
-        left: loops[2],
-        right: loops[3],
-        own: loops[4],
-    }
-}
-
-// A loop for each chain that is partial at the result.
+// A loop for each chain that is partial at the result. Its row's count is written for each i, and restored.
 pub fn walk_loops(
     area: &mut [u64],
     join: Join,
-    loops: &[usize],
-    rows: &mut [usize],
-    l: usize,
-    r: usize,
-    t: usize,
-    count: usize,
+    loops: &[Loop],
+    rows: &mut [Row],
+    at: Turn,
     q: Quota,
 ) -> Quota
-    requires { Sound (length area.old) join loops.now rows.old l r t count }
-    ensures { (state result area.new ≡ walk (loop_pairs join loops.now rows.old l r t) (state q area.old)) × (rows.new ≡ rows.old) }
+    requires { Sound (length area.old) join loops.now rows.old at.left at.right at.own at.count }
+    ensures { (state result area.new ≡ walk (loop_pairs join loops.now rows.old at.left at.right at.own) (state q area.old)) × (rows.new ≡ rows.old) }
 {
-    let len = rows.len();
-    let one = first_loop(loops, len);
-    if loops.len() <= 5 {
-        return walk_last(area, join, one, rows, l, r, t, count, q);
+    let [one, others @ ..] = loops else {
+        return walk_alone(area, join, rows, at, q);
+    };
+    if others.is_empty() {
+        return walk_last(area, join, *one, rows, at, q);
     }
-    let n = one.count;
-    let p = one.row;
-    let old = value_at(rows, p);
+    let old = count_in(rows, one.row);
     let mut e = q;
-    let mut i: usize = 0;
-    while i < n {
-        set_at(rows, p, i + 1);
-        let at = turn_at(one, len, l, r, t, count, i);
-        e = walk_loops(
-            area,
-            join,
-            &loops[5..],
-            rows,
-            at.left,
-            at.right,
-            at.own,
-            at.count,
-            e,
-        );
-        i = next(i, n, e.over, e.skip, e.budget);
+    for i in 0..one.count {
+        set_count(rows, one.row, i + 1);
+        e = walk_loops(area, join, others, rows, one.turn(at, i), e);
+        if ended(e.over, e.skip, e.budget) {
+            break;
+        }
     }
-    set_at(rows, p, old);
+    set_count(rows, one.row, old);
     e
 }

@@ -40,7 +40,7 @@ fn advance_in(run: &Run, done: u64, budget: u64, area: &mut [u64]) -> Result<Adv
         budget: budget as usize,
         over: false,
     };
-    let left = spends::spend(run.model, run.windows, run.table, area, all);
+    let left = spends::spend(run, area, all);
     let after = done + (budget - left.budget as u64);
     if left.over {
         return Err(Halted::Stopped { done: after });

@@ -30,7 +30,7 @@ pub fn whole_value(run: &Run, area: &mut [u64]) -> Option<u64>
         budget: run.table.pairs as usize,
         over: false,
     };
-    let left = spend(run.model, run.windows, run.table, area, all);
+    let left = spend(run, area, all);
     if left.over {
         return None;
     }

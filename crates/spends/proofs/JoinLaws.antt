@@ -2,7 +2,6 @@
 use Prim.Native.Nat.{ℕ, ◌+◌, ◌-◌, ◌≤◌}
 use mathlib.Core.Path.{◌≡◌, sym, ap, subst, ◌∙◌}
 use mathlib.Core.List.{List, ◌++◌}
-use native.Mathlib.Nat.{sub-zero}
 use native.Mathlib.Omega.{arith}
 use lib.ListN.{length, take, replicate, length-append, length-replicate}
 use lib.Seq.{take-append_seam}
@@ -76,13 +75,13 @@ module _ {ch : Chains} {left right own : Node} {n : ℕ} (j : JoinIn ch left rig
   pub own_long : length own.strides ≡ 8
   own_long = strides_long j.routes j.windows own (join j.l j.r) j.start j.own_is few_windows
 
-  windows_taken : take (ch.count - 0) ch.windows ≡ j.windows
-  windows_taken = ap (λ c. take c ch.windows) (sub-zero ch.count) ∙ j.windows_are
+  windows_taken : take ch.count ch.windows ≡ j.windows
+  windows_taken = j.windows_are
 
-  strided : (x : Node) (t : Tree) (start : ℕ) → x ≡ entry j.routes j.windows t start → take (ch.count - 0) x.strides ≡ strides (spans_at j.routes (take (ch.count - 0) ch.windows) t)
-  strided x t start e = ap (λ c. take c x.strides) (sub-zero ch.count ∙ j.count_is) ∙ strides_taken j.routes j.windows x t start e ∙ ap (λ w. strides (spans_at j.routes w t)) (sym windows_taken)
+  strided : (x : Node) (t : Tree) (start : ℕ) → x ≡ entry j.routes j.windows t start → take ch.count x.strides ≡ strides (spans_at j.routes (take ch.count ch.windows) t)
+  strided x t start e = ap (λ c. take c x.strides) j.count_is ∙ strides_taken j.routes j.windows x t start e ∙ ap (λ w. strides (spans_at j.routes w t)) (sym windows_taken)
 
-  pub join_of : JoinOf (take (ch.count - 0) ch.windows) (take (ch.count - 0) left.strides) (take (ch.count - 0) right.strides) (take (ch.count - 0) own.strides) (parts_of left right own) n
+  pub join_of : JoinOf (take ch.count ch.windows) (take ch.count left.strides) (take ch.count right.strides) (take ch.count own.strides) (parts_of left right own) n
   join_of =
       let w = sym windows_taken in
       record {
@@ -93,7 +92,7 @@ module _ {ch : Chains} {left right own : Node} {n : ℕ} (j : JoinIn ch left rig
         others = j.rest;
         parted = j.parted;
         chains = omega (arith, ap length windows_taken, few_windows);
-        messages = take_low (ch.count - 0) ch.windows 15 ch.window_range;
+        messages = take_low ch.count ch.windows 15 ch.window_range;
         left_strides = strided left j.l j.start j.left_is;
         right_strides = strided right j.r (j.start + all_cells j.routes j.windows j.l) j.right_is;
         own_strides = strided own (join j.l j.r) j.start j.own_is;
@@ -107,6 +106,6 @@ module _ {ch : Chains} {left right own : Node} {n : ℕ} (j : JoinIn ch left rig
       }
 
   -- and walking it is walking the join's pairs
-  pub join_walked : (s : State) → walk (own_pairs join_of.routes (take (ch.count - 0) ch.windows) join_of.left join_of.right join_of.start) s ≡ walk (join_pairs j) s
+  pub join_walked : (s : State) → walk (own_pairs join_of.routes (take ch.count ch.windows) join_of.left join_of.right join_of.start) s ≡ walk (join_pairs j) s
   unfolding join_of
   join_walked s = ap (λ w. walk (own_pairs j.routes w j.l j.r j.start) s) windows_taken

@@ -2,7 +2,7 @@
 -- cells lie in the area. So after i nodes the walk has gone over the pairs of the first i.
 use Prim.Native.Nat.{ℕ, ◌+◌, ◌-◌, ◌≤◌, ◌<◌}
 use mathlib.Core.Path.{◌≡◌, refl, sym, ap, subst, ◌∙◌}
-use mathlib.Core.Bool.{Bool, true, false}
+use mathlib.Core.Bool.{true}
 use mathlib.Core.List.{List, [], ◌∷◌, ◌++◌, flat_map, append-nil, Memᴰ}
 use native.Mathlib.Omega.{arith}
 use native.Mathlib.Numerals.{add-one}
@@ -27,7 +27,7 @@ use Rattle.plan.specs.declared.Node.{Node}
 use Rattle.plan.specs.declared.Table.{Table}
 use Rattle.plan.proofs.EntriesLaws.{entry_of}
 use Rattle.plan.proofs.PreparedLaws.{tree_nodes, length_windows, parted_all, centre_range, length_nodes, entry_at}
-use Rattle.joins.specs.Walk.{state, walk, ended, next_turn}
+use Rattle.joins.specs.Walk.{state, walk, ended}
 use Rattle.joins.specs.declared.Quota.{Quota}
 use Rattle.joins.proofs.WalkLaws.{walk-append, walk-ended}
 use Rattle.spends.specs.Joins.{NodeIn, node_pairs}
@@ -145,23 +145,14 @@ module _ {t : Table} {ch : Chains} {q : Quota} {old : List ℕ} {e : Quota} {are
         ∙ ap (λ ps. walk ps (state q old)) (sym (pairs_more p i h));
   }
 
-  -- on to the next one
-  pub walked_next : (j k : ℕ) → i ≡ j + 1 → j < t.count → k ≡ next_turn (ended e.over e.skip e.budget) j t.count → Walked t ch q old e area k
-  unfolding next_turn
-  walked_next j k a h d = by (ended e.over e.skip e.budget) refl d
-    where
-      by : (b : Bool) → ended e.over e.skip e.budget ≡ b → k ≡ next_turn b j t.count → Walked t ch q old e area k
-      by true end d = record {
-        low = omega arith;
-        long = w.long;
-        is = λ m windows p c room.
-            let others : List Pair = flat_map (pairs_of (routes_in m) (windows_in m windows)) (drop i (tree_nodes m windows)) in
-            sym (walk-ended others (state e area) end)
-            ∙ ap (walk others) (w.is m windows p c room)
-            ∙ sym (walk-append (pairs_to m windows i) others (state q old))
-            ∙ ap (λ ps. walk ps (state q old)) (sym (pairs_rest p i) ∙ ap (pairs_to m windows) (sym d));
-      }
-      by false end d = rw (d ∙ sym a) w
-
   pub walked_last : (m : Model) (windows : List ℕ) → (p : Prepared m windows t) → chains_of p ≡ ch → cells_in m (windows_in m windows) ≤ length old → t.count ≤ i → state e area ≡ walk (pairs_listed m (windows_in m windows)) (state q old)
   walked_last m windows p c room h = w.is m windows p c room ∙ ap (λ ps. walk ps (state q old)) (pairs_all p i h)
+
+  -- the others would not change a walk that has ended
+  pub walked_left : (m : Model) (windows : List ℕ) → (p : Prepared m windows t) → chains_of p ≡ ch → cells_in m (windows_in m windows) ≤ length old → ended e.over e.skip e.budget ≡ true → state e area ≡ walk (pairs_listed m (windows_in m windows)) (state q old)
+  walked_left m windows p c room h =
+      let others : List Pair = flat_map (pairs_of (routes_in m) (windows_in m windows)) (drop i (tree_nodes m windows)) in
+      sym (walk-ended others (state e area) h)
+      ∙ ap (walk others) (w.is m windows p c room)
+      ∙ sym (walk-append (pairs_to m windows i) others (state q old))
+      ∙ ap (λ ps. walk ps (state q old)) (sym (pairs_rest p i) ∙ pairs_all p t.count (omega arith))

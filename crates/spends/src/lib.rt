@@ -3,26 +3,28 @@
 
 ghost use Rattle.std.specs.Prelude.{◌≡◌, ◌≤◌, length};
 ghost use Rattle.calls.specs.Asked.{cells_in, pairs_listed};
-ghost use Rattle.plan.specs.Asking.{Prepared};
+ghost use Rattle.plan.specs.Asking.{Ready};
 ghost use Rattle.plan.specs.Table.{windows_in};
 ghost use Rattle.joins.specs.Walk.{state, walk};
 ghost use Rattle.spends.specs.Joins.{JoinIn, NodeIn, join_pairs, node_pairs};
 
 use cellsums::Part;
 use joins::{Join, Quota};
-use modelfile::Model;
-use plan::{Chains, Node, Table};
+use plan::{Chains, Node, Run};
 
 // The pairs of a join, from the table's entries of its children and its own.
-fn join_pairs(ch: Chains, left: Node, right: Node, own: Node, area: &mut [u64], q: Quota) -> Quota
-    requires { JoinIn ch left right own (length area.old) }
-    ensures { (j : JoinIn ch left right own (length area.old)) → state result area.new ≡ walk (join_pairs j) (state q area.old) }
+fn join_pairs(
+    ch: &Chains,
+    left: &Node,
+    right: &Node,
+    own: &Node,
+    area: &mut [u64],
+    q: Quota,
+) -> Quota
+    requires { JoinIn ch.now left.now right.now own.now (length area.old) }
+    ensures { (j : JoinIn ch.now left.now right.now own.now (length area.old)) → state result area.new ≡ walk (join_pairs j) (state q area.old) }
 {
     let n = ch.count;
-    let windows = ch.windows;
-    let lefts = left.strides;
-    let rights = right.strides;
-    let owns = own.strides;
     let parts = Join {
         left: Part {
             from: left.base,
@@ -39,24 +41,28 @@ fn join_pairs(ch: Chains, left: Node, right: Node, own: Node, area: &mut [u64], 
     };
     joins::walk_join(
         area,
-        &windows[0..n],
-        &lefts[0..n],
-        &rights[0..n],
-        &owns[0..n],
+        &ch.windows[..n],
+        &left.strides[..n],
+        &right.strides[..n],
+        &own.strides[..n],
         parts,
         q,
     )
 }
 
 // A leaf has no pairs; a join whose pairs are all done is passed over by their number.
-fn node_pairs(ch: Chains, left: Node, right: Node, own: Node, area: &mut [u64], q: Quota) -> Quota
-    requires { NodeIn ch left right own (length area.old) }
-    ensures { (x : NodeIn ch left right own (length area.old)) → state result area.new ≡ walk (node_pairs x) (state q area.old) }
+fn node_pairs(
+    ch: &Chains,
+    left: &Node,
+    right: &Node,
+    own: &Node,
+    area: &mut [u64],
+    q: Quota,
+) -> Quota
+    requires { NodeIn ch.now left.now right.now own.now (length area.old) }
+    ensures { (x : NodeIn ch.now left.now right.now own.now (length area.old)) → state result area.new ≡ walk (node_pairs x) (state q area.old) }
 {
-    if own.centre != 0 {
-        return q;
-    }
-    if q.over {
+    if own.centre != 0 || q.over {
         return q;
     }
     let pairs = own.pairs as usize;
@@ -71,38 +77,38 @@ fn node_pairs(ch: Chains, left: Node, right: Node, own: Node, area: &mut [u64], 
 }
 
 // The pairs of the table's joins, in order, until the walk ends.
-fn table_pairs(m: Model, windows: [usize; 8], t: Table, area: &mut [u64], q: Quota) -> Quota
-    requires prepared { Prepared m windows t }
-    requires room { cells_in m (windows_in m windows) ≤ length area.old }
-    ensures { state result area.new ≡ walk (pairs_listed m (windows_in m windows)) (state q area.old) }
+fn table_pairs(run: &Run, area: &mut [u64], q: Quota) -> Quota
+    requires ready { Ready run.now }
+    requires room { cells_in run.now.model (windows_in run.now.model run.now.windows) ≤ length area.old }
+    ensures { state result area.new ≡ walk (pairs_listed run.now.model (windows_in run.now.model run.now.windows)) (state q area.old) }
 {
-    let ch = Chains::new(m.chains, t.totals, windows);
+    let ch = run.chains();
     let mut e = q;
-    let mut i = 0;
-    while i < t.count {
-        let (left, right) = t.children(i);
-        let own = t.nodes[i];
-        e = node_pairs(ch, *left, *right, own, area, e);
-        i = joins::next(i, t.count, e.over, e.skip, e.budget);
+    for i in 0..run.table.count {
+        let (left, right) = run.table.children(i);
+        e = node_pairs(&ch, left, right, &run.table.nodes[i], area, e);
+        if joins::ended(e.over, e.skip, e.budget) {
+            break;
+        }
     }
     e
 }
 
 // The pairs of all joins, in order. Without a budget they are only skipped, all at once.
-pub fn spend(m: Model, windows: [usize; 8], t: Table, area: &mut [u64], q: Quota) -> Quota
-    requires prepared { Prepared m windows t }
-    requires room { cells_in m (windows_in m windows) ≤ length area.old }
-    ensures { state result area.new ≡ walk (pairs_listed m (windows_in m windows)) (state q area.old) }
+pub fn spend(run: &Run, area: &mut [u64], q: Quota) -> Quota
+    requires ready { Ready run.now }
+    requires room { cells_in run.now.model (windows_in run.now.model run.now.windows) ≤ length area.old }
+    ensures { state result area.new ≡ walk (pairs_listed run.now.model (windows_in run.now.model run.now.windows)) (state q area.old) }
 {
     if q.over {
         return q;
     }
     if q.budget == 0 {
         return Quota {
-            skip: q.skip.saturating_sub(t.pairs as usize),
+            skip: q.skip.saturating_sub(run.table.pairs as usize),
             budget: 0,
             over: false,
         };
     }
-    table_pairs(m, windows, t, area, q)
+    table_pairs(run, area, q)
 }

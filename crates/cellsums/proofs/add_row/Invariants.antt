@@ -1,12 +1,8 @@
 -- `add_row` meets its contract: one turn a pair.
-use Prim.Native.Nat.{◌-◌}
 use mathlib.Core.List.{[]}
 use Rattle.cellsums.specs.Places.{product}
 use Rattle.cellsums.proofs.RowLaws.{Summed}
 use Rattle.cellsums.proofs.add_row.Given as goal
 
 abbrev pub invariant-loop-j : goal.invariant-loop-j
-invariant-loop-j l = Summed l.n l.a l.b [] l.l l.r (product l.area l.left l.right) l.acc l.sum l.j
-
-abbrev pub decreases-loop-j : goal.decreases-loop-j
-decreases-loop-j l = l.n - l.j
+invariant-loop-j l = Summed l.row [] l.l l.r (product l.area l.left l.right) l.acc l.sum l.j

@@ -6,7 +6,7 @@ use Rattle.cellsums.proofs.PlaceLaws.{within_turn, left_low, right_low}
 use Rattle.cellsums.proofs.add_two_rows.Goals as goal
 
 pub loop-j-init : goal.loop-j-init
-loop-j-init c = sum_begins _ _ _ _ _ _ _ _ (omega arith)
+loop-j-init c = sum_begins (omega arith)
 
 pub overflow_mul-j : goal.overflow_mul-j
 overflow_mul-j c = omega (arith, left_low c.requires _ c.loop-j-test.true)
@@ -14,14 +14,8 @@ overflow_mul-j c = omega (arith, left_low c.requires _ c.loop-j-test.true)
 pub overflow_add-l : goal.overflow_add-l
 overflow_add-l c = omega (arith, left_low c.requires _ c.loop-j-test.true)
 
-pub overflow_sub-n : goal.overflow_sub-n
-overflow_sub-n c = omega arith
-
-pub overflow_sub-n-in-loop-j : goal.overflow_sub-n-in-loop-j
-overflow_sub-n-in-loop-j c = omega arith
-
-pub overflow_mul-n : goal.overflow_mul-n
-overflow_mul-n c = omega (arith, right_low c.requires _ c.loop-j-test.true)
+pub overflow_mul-k : goal.overflow_mul-k
+overflow_mul-k c = omega (arith, right_low c.requires _ c.loop-j-test.true)
 
 pub overflow_add-r : goal.overflow_add-r
 overflow_add-r c = omega (arith, right_low c.requires _ c.loop-j-test.true)
@@ -29,11 +23,11 @@ overflow_add-r c = omega (arith, right_low c.requires _ c.loop-j-test.true)
 pub add_row-requires : goal.add_row-requires
 add_row-requires c = within_turn c.requires _ c.loop-j-test.true
 
-pub returns-in-None : goal.returns-in-None
-returns-in-None c = sum_stops _ _ _ _ _ _ _ _ _ _ c.loop-j.invariant c.loop-j-test.true (sym c.add_row.ensures ∙ c.in-None.is)
+pub returns-in_err-sum : goal.returns-in_err-sum
+returns-in_err-sum c = c.from_residual.ensures ∙ sum_stops c.loop-j.invariant c.loop-j-test.true (sym c.add_row.ensures ∙ c.in_err-sum.was)
 
 pub loop-j-preserved : goal.loop-j-preserved
-loop-j-preserved c = sum_again _ _ _ _ _ _ _ _ _ _ c.loop-j.invariant c.loop-j-test.true _ (sym c.add_row.ensures ∙ c.in-Some.is)
+loop-j-preserved c = sum_again c.loop-j.invariant c.loop-j-test.true (sym c.add_row.ensures ∙ c.in_ok-sum.was)
 
 pub returns : goal.returns
-returns c = sum_ends _ _ _ _ _ _ _ _ _ _ c.loop-j.invariant c.loop-j-test.false
+returns c = sum_ends c.loop-j.invariant c.loop-j-test.false

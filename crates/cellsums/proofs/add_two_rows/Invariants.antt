@@ -1,12 +1,8 @@
 -- `add_two_rows` meets its contract: one turn a row.
-use Prim.Native.Nat.{◌-◌}
-use mathlib.Core.List.{[]}
-use Rattle.cellsums.specs.Places.{row_then, product}
+use mathlib.Core.List.{[], ◌∷◌}
+use Rattle.cellsums.specs.Places.{product}
 use Rattle.cellsums.proofs.RowLaws.{Summed}
 use Rattle.cellsums.proofs.add_two_rows.Given as goal
 
 abbrev pub invariant-loop-j : goal.invariant-loop-j
-invariant-loop-j l = Summed l.n l.a l.b (row_then l.last []) l.l l.r (product l.area l.left l.right) l.acc l.sum l.j
-
-abbrev pub decreases-loop-j : goal.decreases-loop-j
-decreases-loop-j l = l.n - l.j
+invariant-loop-j l = Summed l.row (l.last ∷ []) l.l l.r (product l.area l.left l.right) l.acc l.sum l.j

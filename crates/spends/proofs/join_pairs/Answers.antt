@@ -14,13 +14,13 @@ pub overflow_add-parts-3 : goal.overflow_add-parts-3
 overflow_add-parts-3 c = omega (arith, (ends c.requires).2, c.well_formed)
 
 pub slice_bounds-walk_join-end-2 : goal.slice_bounds-walk_join-end-2
-slice_bounds-walk_join-end-2 c = omega (arith, left_long c.requires, c.args.ch.chains_few)
+slice_bounds-walk_join-end-2 c = omega (arith, left_long c.requires, c.args.ch.now.chains_few)
 
 pub slice_bounds-walk_join-end-3 : goal.slice_bounds-walk_join-end-3
-slice_bounds-walk_join-end-3 c = omega (arith, right_long c.requires, c.args.ch.chains_few)
+slice_bounds-walk_join-end-3 c = omega (arith, right_long c.requires, c.args.ch.now.chains_few)
 
 pub slice_bounds-walk_join-end-4 : goal.slice_bounds-walk_join-end-4
-slice_bounds-walk_join-end-4 c = omega (arith, own_long c.requires, c.args.ch.chains_few)
+slice_bounds-walk_join-end-4 c = omega (arith, own_long c.requires, c.args.ch.now.chains_few)
 
 pub walk_join-requires : goal.walk_join-requires
 walk_join-requires c = join_of c.requires

@@ -7,4 +7,4 @@ pub returns-then-q : goal.returns-then-q
 returns-then-q c = quota_over _ _ _ c.if-q.true
 
 pub returns-then-q-eq0 : goal.returns-then-q-eq0
-returns-then-q-eq0 c = quota_none _ _ _ _ _ (pairs_counted c.requires.prepared) c.if-q.false c.if-q-eq0.true c.saturating_sub.ensures
+returns-then-q-eq0 c = quota_none _ _ _ _ _ (pairs_counted c.requires.ready) c.if-q.false c.if-q-eq0.true c.saturating_sub.ensures

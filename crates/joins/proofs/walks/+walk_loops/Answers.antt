@@ -1,65 +1,70 @@
--- `walk_loops` meets its contract, by recursion on the loops that are left: one turn of the first loop is the others at other places.
-use Prim.Native.Nat.{◌+◌, ◌-◌}
-use mathlib.Core.Path.{refl, ◌∙◌}
+-- `walk_loops` meets its contract, by recursion on the loops that are left: one turn of the first loop is the others at other places. The
+-- rows stay as they were, but for the count that the loop writes.
+use mathlib.Core.Path.{refl, sym, ap, ◌∙◌}
 use native.Mathlib.Omega.{arith}
-use lib.ListN.{length, drop, length-take, length-drop}
-use Rattle.joins.proofs.TurnLaws.{walk_begins, turn_less}
-use Rattle.joins.proofs.LoopLaws.{loop_again, loop_ends, turn_numbers, turn_sound, write_again, write_length, restored, sound_as, first_is, few_sound, few_pairs}
+use lib.ListN.{length}
+use Rattle.cellsums.proofs.PlaceLaws.{first_rest}
+use Rattle.joins.specs.Walk.{state}
+use Rattle.joins.proofs.TurnLaws.{walk_begins, walk_ends, walk_left}
+use Rattle.joins.proofs.CountLaws.{has_as}
+use Rattle.joins.proofs.LoopLaws.{loop_again, loops_as, row_in, turn_numbers, turn_sound, last_at, last_pairs, sound_as, write_again}
 use Rattle.joins.proofs.walks.+walk_loops.Goals as goal
+use Rattle.joins.proofs.walks.+walk_loops.Goals.{else-loop-i-test, then-loop-i-test+then-ended}
 
-pub walk_last-requires : goal.walk_last-requires
-walk_last-requires t c = few_sound _ _ _ _ _ _ _ c.first_loop-one.ensures c.if-loops-le5.true _ _ (omega arith) (omega arith) c.requires
+pub walk_alone-requires-clause-inside : goal.walk_alone-requires-clause-inside
+walk_alone-requires-clause-inside t c = (last_at _ _ _ _ _ _ _ _ c.in_default.len_below c.requires).inside
 
-pub returns-then-loops-le5 : goal.returns-then-loops-le5
-returns-then-loops-le5 t c = (few_pairs _ _ _ _ _ _ _ c.first_loop-one.ensures c.if-loops-le5.true _ _ c.walk_last.ensures.0, c.walk_last.ensures.1)
+pub walk_alone-requires-clause-counted : goal.walk_alone-requires-clause-counted
+walk_alone-requires-clause-counted t c = (last_at _ _ _ _ _ _ _ _ c.in_default.len_below c.requires).counted
+
+pub returns-in_default : goal.returns-in_default
+returns-in_default t c = (c.walk_alone.ensures ∙ last_pairs _ _ _ _ _ _ _ c.in_default.len_below, refl)
+
+pub count_in-old-requires : goal.count_in-old-requires
+count_in-old-requires t c = row_in _ _ _ _ _ _ _ _ _ (sound_as _ _ _ _ _ _ _ (first_rest c.args.loops.now _ c.in-len1-up.len_at_least) c.requires)
 
 pub loop-i-init : goal.loop-i-init
 loop-i-init t c =
-    let d = first_is _ _ _ c.first_loop-one.ensures c.if-loops-le5.false in
-    ((omega arith, refl, refl, refl, c.value_at-old.ensures, omega arith), d, sound_as _ _ _ _ _ _ _ d c.requires, (λ x. refl), walk_begins _ _ _)
+    let e = first_rest c.args.loops.now _ c.in-len1-up.len_at_least in
+    record { loops_are = e; sound = sound_as _ _ _ _ _ _ _ e c.requires; old_is = c.count_in-old.ensures; rows_are = (λ x. refl); walked = walk_begins _ }
 
-pub turn_at-at-requires : goal.turn_at-at-requires
-turn_at-at-requires t c = record { turn_left = c.loop-i-test.true; numbers = turn_numbers _ _ _ _ _ _ _ _ _ c.loop-i.invariant.2 _ c.loop-i-test.true _ c.loop-i.invariant.0.3 }
+pub set_count-requires : goal.set_count-requires
+set_count-requires t c = has_as _ c.args.rows.now _ (sym c.loop-i.auto.rows) (row_in _ _ _ _ _ _ _ _ _ c.loop-i.invariant.sound)
 
-pub slice_bounds-walk_loops-count : goal.slice_bounds-walk_loops-count
-slice_bounds-walk_loops-count t c = omega arith
-
-pub slice_bounds-walk_loops-start : goal.slice_bounds-walk_loops-start
-slice_bounds-walk_loops-start t c = omega arith
+pub turn-requires-clause-numbers : goal.turn-requires-clause-numbers
+turn-requires-clause-numbers t c = turn_numbers _ _ _ _ _ _ _ _ _ c.loop-i.invariant.sound _ c.loop-i-test.true
 
 pub walk_loops-e-requires : goal.walk_loops-e-requires
 walk_loops-e-requires t c =
     let i = c.loop-i.invariant in
-    let loops = c.args.loops.now in (
-      omega (arith, i.0.0, length-take (length loops - 5) (drop 5 loops), length-drop 5 loops),
-      turn_sound _ _ _ _ _ _ _ _ _ i.2 _ c.loop-i-test.true _ i.0.3 _ _ _ i.0.1 (c.set_at.ensures ∙ i.3 _) c.turn_at-at.ensures,
-    )
-
-pub next-i-requires : goal.next-i-requires
-next-i-requires t c = c.loop-i-test.true
-
-pub loop-i-smaller : goal.loop-i-smaller
-loop-i-smaller t c = turn_less _ _ _ _ c.loop-i-test.true c.next-i.ensures
+    (omega (arith, ap length i.loops_are), turn_sound _ _ _ _ _ _ _ _ _ i.sound _ c.loop-i-test.true c.loop-i.auto.area (c.set_count.ensures ∙ i.rows_are _) c.turn.ensures)
 
 pub loop-i-preserved : goal.loop-i-preserved
 loop-i-preserved t c =
     let i = c.loop-i.invariant in
-    let rows = c.loop-i.rows in
-    let rows₀ = c.args.rows.now in (
-      (i.0.0, omega (arith, c.walk_loops-e.auto.area, i.0.1), write_length rows rows₀ _ _ _ _ i.0.2 c.set_at.ensures c.walk_loops-e.ensures.1, i.0.3, i.0.4, i.0.5),
-      i.1,
-      i.2,
-      write_again rows rows₀ _ _ _ (c.loop-i.i + 1) i.3 c.set_at.ensures c.walk_loops-e.ensures.1,
-      loop_again _ _ _ _ _ _ _ _ _ _ _ _ i.4 c.loop-i-test.true _ (c.set_at.ensures ∙ i.3 _) _ _ _ c.turn_at-at.ensures c.walk_loops-e.ensures.0 c.next-i.ensures,
-    )
+    record {
+      loops_are = i.loops_are;
+      sound = i.sound;
+      old_is = i.old_is;
+      rows_are = write_again _ c.loop-i.rows _ _ _ i.rows_are (c.walk_loops-e.ensures.1 ∙ c.set_count.ensures);
+      walked = loop_again _ _ _ _ _ _ _ i.walked c.loop-i-test.true (c.set_count.ensures ∙ i.rows_are _) _ c.turn.ensures c.walk_loops-e.ensures.0;
+    }
 
-pub shape_of-area : goal.shape_of-area
-shape_of-area t c = omega (arith, c.loop-i.invariant.0.1)
-
-pub shape_of-rows : goal.shape_of-rows
-shape_of-rows t c = omega (arith, c.loop-i.invariant.0.2, c.set_at-2.auto.rows)
+pub set_count-requires-2 : goal.set_count-requires-2
+set_count-requires-2 t c = has_as _ c.args.rows.now _ (sym (c.loop-i-test.auto.rows ∙ c.loop-i.auto.rows)) (row_in _ _ _ _ _ _ _ _ _ c.loop-i.invariant.sound)
 
 pub returns : goal.returns
 returns t c =
     let i = c.loop-i.invariant in
-    (loop_ends _ _ _ _ _ _ _ _ _ _ i.4 c.loop-i-test.false _ i.1, restored c.loop-i.rows c.args.rows.now _ _ _ i.3 i.0.4 c.set_at-2.ensures)
+    elim c.loop-i-test.branch [
+      | else-loop-i-test w ↦ (
+        (λ j. state (w.e-is j) (w.area-is j)) ∙ loops_as _ _ _ _ _ _ _ _ _ _ i.loops_are (walk_ends i.walked w.loop-i-test.false),
+        c.set_count-2.ensures ∙ rw w.rows-is (i.rows_are _) ∙ i.old_is,
+      )
+      | then-loop-i-test+then-ended w ↦ (
+        (λ j. state (w.e-is j) (w.area-is j))
+            ∙ loops_as _ _ _ _ _ _ _ _ _ _ i.loops_are
+            (walk_left (loop_again _ _ _ _ _ _ _ i.walked w.loop-i-test.true (w.set_count.ensures ∙ i.rows_are _) _ w.turn.ensures w.walk_loops-e.ensures.0) (sym w.ended.ensures ∙ w.if-ended.true)),
+        c.set_count-2.ensures ∙ rw w.rows-is (write_again _ c.loop-i.rows _ _ _ i.rows_are (w.walk_loops-e.ensures.1 ∙ w.set_count.ensures) _) ∙ i.old_is,
+      )
+    ]

@@ -6,8 +6,10 @@ use Rattle.joins.proofs.walks.walk_cell.Goals as goal
 pub returns-then-q : goal.returns-then-q
 returns-then-q c = cell_over _ _ _ c.if-q.true
 
-pub returns-then-count-q : goal.returns-then-count-q
-returns-then-count-q c = rw c.remaining.ensures (cell_past _ _ _ _ _ _ _ c.requires.inside refl _ c.requires.counted _ c.if-q.false c.if-count-q.true)
+pub returns-then-at-q : goal.returns-then-at-q
+returns-then-at-q c = cell_past _ _ _ _ _ _ _ c.requires.inside refl _ c.requires.counted _ c.if-q.false c.if-at-q.true
 
 pub returns-in-Some : goal.returns-in-Some
-returns-in-Some c = rw c.remaining-in-Some.ensures (cell_added _ _ _ _ _ _ _ c.requires.inside refl _ c.requires.counted _ c.if-q.false c.if-q-gt0.false c.if-q-count.false _ _ _ c.cell-x.ensures c.put.ensures (sym c.cell_sum.ensures ∙ c.in-Some.is))
+returns-in-Some c =
+    cell_added _ _ _ _ _ _ _ c.requires.inside refl _ c.requires.counted _ c.if-q.false c.if-q-gt0.false c.if-q-at.false
+    _ _ _ c.cell-x.ensures c.put.ensures (sym c.cell_sum.ensures ∙ c.in-Some.is)

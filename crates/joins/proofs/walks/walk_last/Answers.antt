@@ -1,46 +1,55 @@
--- `walk_last` meets its contract: one turn a cell. Other than at p the rows stay as they were, and p is restored.
-use Prim.Native.Nat.{◌+◌}
-use mathlib.Core.Path.{refl, ◌∙◌}
+-- `walk_last` meets its contract: one turn a cell. The rows stay as they were, but for the count that the loop writes.
+use mathlib.Core.Path.{refl, sym, ◌∙◌}
 use native.Mathlib.Omega.{arith}
-use Rattle.joins.proofs.TurnLaws.{walk_begins, turn_less}
-use Rattle.joins.proofs.LoopLaws.{loop_ends, turn_numbers, turn_sound, last_at, last_again, write_again, write_length, restored}
+use Rattle.joins.specs.Walk.{state}
+use Rattle.joins.proofs.TurnLaws.{walk_begins, walk_ends, walk_left}
+use Rattle.joins.proofs.CountLaws.{has_as}
+use Rattle.joins.proofs.LoopLaws.{last_again, loops_as, row_in, turn_numbers, turn_sound, last_at, write_again}
 use Rattle.joins.proofs.walks.walk_last.Goals as goal
+use Rattle.joins.proofs.walks.walk_last.Goals.{else-loop-i-test, then-loop-i-test+then-ended}
+
+pub count_in-old-requires : goal.count_in-old-requires
+count_in-old-requires c = row_in _ _ _ _ _ _ _ _ _ c.requires
 
 pub loop-i-init : goal.loop-i-init
-loop-i-init c = ((refl, refl, refl, c.value_at-old.ensures, omega arith), (λ x. refl), walk_begins _ _ _)
+loop-i-init c = record { old_is = c.count_in-old.ensures; rows_are = (λ x. refl); walked = walk_begins _ }
 
-pub turn_at-at-requires : goal.turn_at-at-requires
-turn_at-at-requires c = record { turn_left = c.loop-i-test.true; numbers = turn_numbers _ _ _ _ _ _ _ _ _ c.requires _ c.loop-i-test.true _ c.loop-i.invariant.0.2 }
+pub set_count-requires : goal.set_count-requires
+set_count-requires c = has_as _ c.args.rows.now _ (sym c.loop-i.auto.rows) (row_in _ _ _ _ _ _ _ _ _ c.requires)
+
+pub turn-requires-clause-numbers : goal.turn-requires-clause-numbers
+turn-requires-clause-numbers c = turn_numbers _ _ _ _ _ _ _ _ _ c.requires _ c.loop-i-test.true
 
 pub walk_cell-e-requires : goal.walk_cell-e-requires
 walk_cell-e-requires c =
     let i = c.loop-i.invariant in
-    let at = last_at _ _ _ _ _ _ _ (turn_sound _ _ _ _ _ _ _ _ _ c.requires _ c.loop-i-test.true _ i.0.2 _ _ _ i.0.0 (c.set_at.ensures ∙ i.1 _) c.turn_at-at.ensures) in
+    let at = last_at _ _ _ _ _ _ _ _ (omega arith) (turn_sound _ _ _ _ _ _ _ _ _ c.requires _ c.loop-i-test.true c.loop-i.auto.area (c.set_count.ensures ∙ i.rows_are _) c.turn.ensures) in
     record { inside = at.inside; counted = at.counted }
-
-pub next-i-requires : goal.next-i-requires
-next-i-requires c = c.loop-i-test.true
-
-pub loop-i-smaller : goal.loop-i-smaller
-loop-i-smaller c = turn_less _ _ _ _ c.loop-i-test.true c.next-i.ensures
 
 pub loop-i-preserved : goal.loop-i-preserved
 loop-i-preserved c =
     let i = c.loop-i.invariant in
-    let rows = c.loop-i.rows in
-    let rows₀ = c.args.rows.now in (
-      (omega (arith, c.walk_cell-e.auto.area, i.0.0), write_length rows rows₀ _ _ _ _ i.0.1 c.set_at.ensures refl, i.0.2, i.0.3, i.0.4),
-      write_again rows rows₀ _ _ _ (c.loop-i.i + 1) i.1 c.set_at.ensures refl,
-      last_again _ _ _ _ _ _ _ _ _ _ _ i.2 c.loop-i-test.true _ (c.set_at.ensures ∙ i.1 _) _ _ _ c.turn_at-at.ensures c.walk_cell-e.ensures c.next-i.ensures,
-    )
+    record {
+      old_is = i.old_is;
+      rows_are = write_again _ c.loop-i.rows _ _ _ i.rows_are c.set_count.ensures;
+      walked = last_again _ _ _ _ _ _ i.walked c.loop-i-test.true (c.set_count.ensures ∙ i.rows_are _) _ c.turn.ensures c.walk_cell-e.ensures;
+    }
 
-pub shape_of-area : goal.shape_of-area
-shape_of-area c = omega (arith, c.loop-i.invariant.0.0)
-
-pub shape_of-rows : goal.shape_of-rows
-shape_of-rows c = omega (arith, c.loop-i.invariant.0.1, c.set_at-2.auto.rows)
+pub set_count-requires-2 : goal.set_count-requires-2
+set_count-requires-2 c = has_as _ c.args.rows.now _ (sym (c.loop-i-test.auto.rows ∙ c.loop-i.auto.rows)) (row_in _ _ _ _ _ _ _ _ _ c.requires)
 
 pub returns : goal.returns
 returns c =
     let i = c.loop-i.invariant in
-    (loop_ends _ _ _ _ _ _ _ _ _ _ i.2 c.loop-i-test.false _ refl, restored c.loop-i.rows c.args.rows.now _ _ _ i.1 i.0.3 c.set_at-2.ensures)
+    elim c.loop-i-test.branch [
+      | else-loop-i-test w ↦ (
+        (λ j. state ((c.copied.ensures ∙ w.e-is) j) (w.area-is j)) ∙ loops_as _ _ _ _ _ _ _ _ _ _ refl (walk_ends i.walked w.loop-i-test.false),
+        c.set_count-2.ensures ∙ rw w.rows-is (i.rows_are _) ∙ i.old_is,
+      )
+      | then-loop-i-test+then-ended w ↦ (
+        (λ j. state ((c.copied.ensures ∙ w.e-is) j) (w.area-is j))
+            ∙ loops_as _ _ _ _ _ _ _ _ _ _ refl
+            (walk_left (last_again _ _ _ _ _ _ i.walked w.loop-i-test.true (w.set_count.ensures ∙ i.rows_are _) _ w.turn.ensures w.walk_cell-e.ensures) (sym w.ended.ensures ∙ w.if-ended.true)),
+        c.set_count-2.ensures ∙ rw w.rows-is (write_again _ c.loop-i.rows _ _ _ i.rows_are w.set_count.ensures _) ∙ i.old_is,
+      )
+    ]

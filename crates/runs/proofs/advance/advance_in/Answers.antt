@@ -12,7 +12,7 @@ pub returns-then-run-done : goal.returns-then-run-done
 returns-then-run-done c = let both = left_is (advance_high _ _ _ c.requires _ _ _ c.no_room.ensures c.if-no_room.false c.if-run-done.true) (refl, refl) in record { answer = both.0; left = both.1 }
 
 pub spend-left-requires : goal.spend-left-requires
-spend-left-requires c = record { prepared = c.requires; room = room _ _ _ c.requires c.args.area.now c.no_room.ensures c.if-no_room.false }
+spend-left-requires c = record { ready = c.requires; room = room _ _ _ c.requires c.args.area.now c.no_room.ensures c.if-no_room.false }
 
 pub overflow_sub-after : goal.overflow_sub-after
 overflow_sub-after c = budget_low _ _ _ c.requires _ _ _ c.spend-left.ensures

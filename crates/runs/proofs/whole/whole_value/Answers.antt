@@ -14,7 +14,7 @@ pub fill-requires : goal.fill-requires
 fill-requires c = record { ready = c.requires.ready; room = c.requires.room; none_large = sym c.some_leaf_too_large.ensures ∙ c.if-some_leaf_too_large.false }
 
 pub spend-left-requires : goal.spend-left-requires
-spend-left-requires c = record { prepared = c.requires.ready; room = room_filled _ _ _ c.requires.ready _ c.requires.room c.some_leaf_too_large.ensures c.if-some_leaf_too_large.false c.fill.ensures }
+spend-left-requires c = record { ready = c.requires.ready; room = room_filled _ _ _ c.requires.ready _ c.requires.room c.some_leaf_too_large.ensures c.if-some_leaf_too_large.false c.fill.ensures }
 
 pub returns-then-left : goal.returns-then-left
 returns-then-left c = record { value = whole_stopped _ _ _ c.requires.ready _ c.requires.room c.some_leaf_too_large.ensures c.if-some_leaf_too_large.false c.fill.ensures c.spend-left.ensures c.if-left.true; long = (whole_kept _ _ _ c.requires.ready _ c.requires.room c.some_leaf_too_large.ensures c.if-some_leaf_too_large.false c.fill.ensures c.spend-left.ensures).0; past = (whole_kept _ _ _ c.requires.ready _ c.requires.room c.some_leaf_too_large.ensures c.if-some_leaf_too_large.false c.fill.ensures c.spend-left.ensures).1 }
