@@ -1,5 +1,5 @@
-// Row n, column k: 121 rows of 16. A static, since a constant array is laid out anew by each function that names it.
-pub static TABLE: [u64; 1936] = [
+// Row n, column k: 121 rows of 16.
+pub const TABLE: [u64; 1936] = [
     1,
     0,
     0,
