@@ -5,7 +5,7 @@
 ghost use Rattle.std.specs.Prelude.{◌≡◌};
 ghost use Rattle.modelfile.specs.Refusals.{fault_number};
 
-// What the records up to some place have given.
+// What the records up to some place have given. Arrays of fixed length with a count beside: there is no heap on a board.
 #[derive(Clone, Copy)]
 pub struct Model {
     // the size record: how many centres and chains

@@ -16,7 +16,8 @@ mod model; // model.rt: where a record notes something, and tests of the model
 pub mod numbers; // numbers.rt: centre and chain numbers with their ends
 pub mod records; // records.rt: one record
 
-// The loop lends a record the bytes from its kind byte on, so that a record sees constant indices only.
+// The loop lends a record the bytes from its kind byte on, so that a record sees constant indices only. A `while`, since each record's own
+// length leads on to the next one.
 pub fn read_file(file: &[u8]) -> Reading
     ensures { result ≡ read_file file.now }
 {
