@@ -20,12 +20,10 @@ use Rattle.std.specs.Prelude.{Some, Ok, Err}
 use Rattle.arith.proofs.CappedLaws.{capped_exact}
 use Rattle.calls.specs.Asked.{refused, granted, pick_asked, less_one, lowering, cells_in}
 use Rattle.calls.specs.Sheet.{numerator}
-use Rattle.calls.proofs.FileLaws.{length_windows, lowering_windows}
+use Rattle.calls.proofs.FileLaws.{length_windows}
 use Rattle.calls.proofs.GrantedLaws.{lowering-value}
 use Rattle.calls.specs.declared.Refusal.{Refusal}
-use Rattle.plan.specs.Table.{windows_in}
-use Rattle.plan.specs.Asking.{asked_of, RunFor}
-use Rattle.plan.specs.declared.Run.{Run}
+use Rattle.plan.specs.Lowered.{lowered_of}
 use Rattle.rates.specs.Steps.{Kept}
 
 -- ---- what is kept
@@ -95,31 +93,22 @@ granted_fewer m (suc i) windows e = by (ltb m.chains (suc i)) (eqb (get_or (wind
 -- ---- the two cases of the code
 
 module _ (m : Model) (g : Guaranteed m) (chain : ℕ) where
-  pub not_run : {r : Refusal} → RunFor (lowering m chain) (Err r) → 1 ≤ chain → Some 0 ≡ capped (numerator m chain)
-  unfolding asked_of
-  not_run {r} w h =
+  pub not_run : (r : Refusal) → lowered_of m (Err r) ≡ lowering m chain → 1 ≤ chain → Some 0 ≡ capped (numerator m chain)
+  unfolding lowered_of
+  not_run r w h =
       let f : suc (chain - 1) ≡ chain = omega arith in
-      let d : refused r ≡ lowering m (suc (chain - 1)) = w.answer ∙ ap (lowering m) (sym f) in
+      let d : refused r ≡ lowering m (suc (chain - 1)) = w ∙ ap (lowering m) (sym f) in
       let z : numerator m chain ≡ 0 = ap (numerator m) (sym f) ∙ numerator-refused m g (chain - 1) d in
       sym (capped_exact {n = 0} (omega arith)) ∙ ap capped (sym z)
 
-  module _ {run : Run} (w : RunFor (lowering m chain) (Ok run)) where
-    abbrev windows : List ℕ
-    windows = windows_in run.model run.windows
+  module _ (windows : List ℕ) (w : lowered_of m (Ok windows) ≡ lowering m chain) where
+    runs : granted m (take m.chains windows) ≡ lowering m chain
+    unfolding lowered_of
+    runs = w
 
-    model_is : m ≡ run.model
-    unfolding asked_of
-    model_is = (lowering_windows m chain run.model windows (sym w.answer)).0
+    pub run_cells : cells_in m (take m.chains windows) ≤ cells_in m (windows_of m)
+    run_cells = let f = granted_fewer m chain (take m.chains windows) runs in cells_rise (routes_of (centres_of m)) (take m.chains windows) (windows_of m) f.0 f.1 (tree_of m)
 
-    runs : granted m windows ≡ lowering m chain
-    unfolding asked_of
-    runs = ap (λ n. granted n windows) model_is ∙ w.answer
-
-    pub run_cells : cells_in run.model windows ≤ cells_in m (windows_of m)
-    run_cells =
-        let f = granted_fewer m chain windows runs in
-        subst (λ n. cells_in n windows ≤ cells_in m (windows_of m)) model_is (cells_rise (routes_of (centres_of m)) windows (windows_of m) f.0 f.1 (tree_of m))
-
-    pub run_value : value (centres_of run.model) windows ≡ numerator m chain
+    pub run_value : value (centres_of m) (take m.chains windows) ≡ numerator m chain
     unfolding numerator
-    run_value = ap (λ n. value (centres_of n) windows) (sym model_is) ∙ lowering-value m chain m windows (length_windows m g) (sym runs)
+    run_value = lowering-value m chain m (take m.chains windows) (length_windows m g) (sym runs)

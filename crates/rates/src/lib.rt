@@ -10,7 +10,7 @@ ghost use Rattle.calls.specs.Sheet.{numerator};
 ghost use Rattle.rates.specs.Steps.{Kept, numerators_of};
 
 use modelfile::Model;
-use plan::asking::run_of;
+use plan::windows::lowered;
 use runs::whole::whole_value;
 
 // "A chain with window 0 has numerator 0 and isn't run."
@@ -19,8 +19,8 @@ fn numerator(m: &Model, chain: u64, area: &mut [u64]) -> Option<u64>
     ensures value { result ≡ capped (numerator m.now chain) }
     ensures kept { Kept (cells_in m.now (windows_of m.now)) area.old area.new }
 {
-    match run_of(*m, chain) {
-        Ok(run) => whole_value(&run, area),
+    match lowered(*m, chain) {
+        Ok(windows) => whole_value(*m, windows, area),
         Err(_) => Some(0),
     }
 }

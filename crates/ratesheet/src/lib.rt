@@ -16,7 +16,7 @@ use plan::Run;
 use plan::asking::prepare;
 use rates::numerators;
 use runs::no_room;
-use runs::whole::whole_value;
+use runs::whole::run_value;
 
 // The runs of a full model.
 fn run_all(run: &Run, area: &mut [u64]) -> Result<Sheet, Refusal>
@@ -25,7 +25,7 @@ fn run_all(run: &Run, area: &mut [u64]) -> Result<Sheet, Refusal>
     ensures answer { result ≡ sheet_of run.now.model }
     ensures kept { Kept (cells_in run.now.model (windows_of run.now.model)) area.old area.new }
 {
-    let value = whole_value(run, area).ok_or(Refusal::TooLarge)?;
+    let value = run_value(run, area).ok_or(Refusal::TooLarge)?;
     let numerators = numerators(&run.model, area).ok_or(Refusal::LoweredTooLarge)?;
     Ok(Sheet {
         value,

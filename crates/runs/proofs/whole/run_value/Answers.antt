@@ -1,8 +1,8 @@
--- `whole_value` meets its contract: a leaf too large, a pair that stops, or all pairs done.
+-- `run_value` meets its contract: a leaf too large, a pair that stops, or all pairs done.
 use mathlib.Core.Path.{refl, sym, ap, ◌∙◌}
 use Rattle.std.specs.Prelude.{Some}
 use Rattle.runs.proofs.WholeLaws.{whole_large, room_filled, whole_kept, whole_stopped, whole_exact, last_inside}
-use Rattle.runs.proofs.whole.whole_value.Goals as goal
+use Rattle.runs.proofs.whole.run_value.Goals as goal
 
 pub some_leaf_too_large-requires : goal.some_leaf_too_large-requires
 some_leaf_too_large-requires c = c.requires.ready
