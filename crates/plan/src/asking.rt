@@ -4,9 +4,9 @@ ghost use Rattle.modelfile.proofs.Guaranteed.{Guaranteed};
 ghost use Rattle.calls.specs.Asked.{lowering, ask};
 ghost use Rattle.plan.specs.Asking.{Ready, RunFor, chains_of};
 
-use crate::{Chains, Run};
 use crate::tables::make_table;
 use crate::windows::lowered;
+use crate::{Chains, Run};
 use calls::Refusal;
 use modelfile::Model;
 
