@@ -5,9 +5,10 @@ use mathlib.Core.Path.{◌≡◌, ap, ◌∙◌}
 use mathlib.Core.List.{List}
 use native.Mathlib.Omega.{arith}
 use lib.ListN.{get_or, replicate}
+use Rattle.calls.specs.declared.SheetNumbers.{SheetNumbers}
 use Rattle.calls.specs.Answers.{sheet_numbers}
 use Rattle.calls.specs.Answers.{plan_numbers, start_numbers, advance_numbers}
-use Rattle.calls.specs.Promises.{PlanAllows, StartAllows, AdvanceAllows, SheetAllows}
+use Rattle.calls.specs.Promises.{PlanAllows, StartAllows, AdvanceAllows, SheetAllows, BoardSheetAllows}
 use Rattle.calls.specs.Answers.{PlanAnswer}
 use Rattle.calls.specs.Answers.{StartAnswer}
 use Rattle.calls.specs.Answers.{AdvanceAnswer}
@@ -72,3 +73,18 @@ invented_pairs_plan r f e = f (ap (λ a. (plan_numbers a).pairs) e ∙ ap (λ n.
 
 pub invented_pairs_sheet : (r : SheetAnswer) (left : List ℕ) → ((sheet_numbers r).pairs ≡ 6 → ⊥) → SheetAllows B (replicate 11 7) r left → ⊥
 invented_pairs_sheet r left f e = f (ap (λ a. (sheet_numbers a).pairs) e.0 ∙ ap (λ n. n.pairs) starred.B_sheet)
+
+-- ---- the sheet's call for boards, which answers the numbers themselves
+
+pub board_refuses_all_sheet : (r : SheetNumbers) (left : List ℕ) → 1 ≤ r.refusal → BoardSheetAllows B (replicate 11 7) r left → ⊥
+board_refuses_all_sheet r left h e = omega (arith, ap (λ n. n.refusal) e.0 ∙ ap (λ n. n.refusal) starred.B_sheet)
+
+pub board_fixed_value_sheet : (r s : SheetNumbers) (left other : List ℕ) → r.value ≡ s.value
+    → BoardSheetAllows B (replicate 11 7) r left → BoardSheetAllows two (replicate 7 7) s other → ⊥
+board_fixed_value_sheet r s left other same p q =
+    let x : r.value ≡ 14 = ap (λ n. n.value) p.0 ∙ ap (λ n. n.value) starred.B_sheet in
+    let y : s.value ≡ 7 = ap (λ n. n.value) q.0 ∙ ap (λ n. n.value) starred.two_sheet in
+    omega (arith, same, x, y)
+
+pub board_invented_pairs_sheet : (r : SheetNumbers) (left : List ℕ) → (r.pairs ≡ 6 → ⊥) → BoardSheetAllows B (replicate 11 7) r left → ⊥
+board_invented_pairs_sheet r left f e = f (ap (λ n. n.pairs) e.0 ∙ ap (λ n. n.pairs) starred.B_sheet)

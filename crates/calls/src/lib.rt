@@ -56,7 +56,7 @@ impl From<modelfile::Refusal> for Refusal {
     ghost from_gives = { λ r result. result ≡ Refusal.File r };
 
     fn from(r: modelfile::Refusal) -> Self {
-        Refusal::File(r)
+        Self::File(r)
     }
 }
 
@@ -86,7 +86,7 @@ impl From<Refusal> for Halted {
     ghost from_gives = { λ r result. result ≡ Halted.Refused r };
 
     fn from(r: Refusal) -> Self {
-        Halted::Refused(r)
+        Self::Refused(r)
     }
 }
 
