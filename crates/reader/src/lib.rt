@@ -5,10 +5,9 @@ ghost use Rattle.std.specs.Prelude.{◌≡◌};
 ghost use Rattle.modelfile.specs.File.{read_file};
 ghost use Rattle.modelfile.specs.Part.{PartAllows};
 
-use crate::kinds::body_length;
 use crate::model::{empty_model, first_place, slot_of};
-use crate::numbers::Centre;
-use crate::records::{Said, read_record};
+use crate::numbers::{Centre, wide};
+use crate::records::{Said, body_length, read_record};
 use modelfile::{Fault, Reading};
 
 pub mod kinds; // kinds.rt: the kinds of record
@@ -24,7 +23,7 @@ pub fn read_file(file: &[u8]) -> Reading
     let mut m = empty_model();
     let mut at = 0;
     while at < file.len() {
-        let next = at + 1 + body_length(file[at]);
+        let next = at + 1 + body_length(wide(file[at]));
         match read_record(&file[at..], at, m) {
             Ok(Said::Size(centres, chains)) => {
                 m.centres = centres.n;
