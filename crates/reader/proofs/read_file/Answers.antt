@@ -11,8 +11,8 @@ use Rattle.reader.proofs.read_file.Goals as goal
 pub loop-at-init : goal.loop-at-init
 loop-at-init c = search reached_start
 
-pub overflow_add-next-in-loop-at : goal.overflow_add-next-in-loop-at
-overflow_add-next-in-loop-at c = omega (arith, c.body_length.ensures.1, c.loop-at-test.true)
+pub overflow_add-at-in-loop-at : goal.overflow_add-at-in-loop-at
+overflow_add-at-in-loop-at c = omega (arith, c.body_length.ensures.1, c.loop-at-test.true)
 
 pub read_record-requires : goal.read_record-requires
 read_record-requires c = record { holds = part_holds c.args.file.now c.loop-at.at c.loop-at-test.true (omega arith); sound = c.loop-at.invariant.sound }
@@ -92,10 +92,10 @@ unfolding said with_join
 loop-at-preserved c = reached_next _ _ c.loop-at.invariant c.loop-at-test.true c.read_record.result c.read_record.ensures.0 (ap (said c.loop-at.m c.loop-at.at) (c.in-Ok-Join.is ∙ ap Ok c.in-Ok-Join.field-0-is)) c.wide.ensures.0 c.body_length.ensures.0
 
 pub returns-in-Ok-Last : goal.returns-in-Ok-Last
-returns-in-Ok-Last c = reached_last _ _ c.loop-at.invariant c.loop-at-test.true c.read_record.result c.read_record.ensures.0 (c.in-Ok-Last.is ∙ ap Ok c.in-Ok-Last.field-0-is)
+returns-in-Ok-Last c = c.reading.ensures ∙ reached_last _ _ c.loop-at.invariant c.loop-at-test.true c.read_record.result c.read_record.ensures.0 (c.in-Ok-Last.is ∙ ap Ok c.in-Ok-Last.field-0-is)
 
 pub returns-in-Err : goal.returns-in-Err
-returns-in-Err c = reached_refused _ _ c.loop-at.invariant c.loop-at-test.true c.read_record.result c.read_record.ensures.0 c.in-Err.is
+returns-in-Err c = c.reading-in-Err.ensures ∙ reached_refused _ _ c.loop-at.invariant c.loop-at-test.true c.read_record.result c.read_record.ensures.0 c.in-Err.is
 
 pub returns : goal.returns
-returns c = rw c.at.ensures (reached_over _ _ c.loop-at.invariant c.loop-at-test.false)
+returns c = c.reading-2.ensures ∙ rw c.at.ensures (reached_over _ _ c.loop-at.invariant c.loop-at-test.false)
