@@ -82,15 +82,12 @@ fn read_leaf(rest: &[u8], at: usize, m: Model) -> Result<Said, Refusal>
     requires sound { Sound m }
     ensures { (said m at result ≡ read_leaf rest.now at m) × Room m result }
 {
-    let field = at + 1;
     let centre = Centre::field(rest, 1, at, m.centres)?;
-    let fails = first_leaf_fails(m);
-    let again = is_placed(m, centre);
-    if fails {
+    if first_leaf_fails(m) {
         return Err(Fault::ChainWithoutCentre.at(at));
     }
-    if again {
-        return Err(Fault::CentreAgain.at(field));
+    if is_placed(m, centre) {
+        return Err(Fault::CentreAgain.at(at + 1));
     }
     Ok(Said::Leaf(centre))
 }
