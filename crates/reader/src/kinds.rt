@@ -1,5 +1,5 @@
 // The kinds of record, by their byte in a file, and how long their bodies are.
-ghost use Rattle.std.specs.Prelude.{◌≡◌, ◌≤◌};
+ghost use Rattle.std.specs.Prelude.{◌≡◌};
 ghost use Rattle.modelfile.specs.Records.{body_length};
 ghost use Rattle.reader.specs.Kinds.{kind_number, KindAt};
 
@@ -13,17 +13,17 @@ pub enum Kind {
     End,
 }
 
-// A byte that is no kind's.
+// A number that is no kind's byte.
 #[derive(Clone, Copy, PartialEq, Eq)]
 pub struct NoKind;
 
-impl TryFrom<u8> for Kind {
+impl TryFrom<usize> for Kind {
     type Error = NoKind;
 
     ghost try_from_gives = { KindAt };
 
-    fn try_from(byte: u8) -> Result<Self, NoKind> {
-        match byte {
+    fn try_from(number: usize) -> Result<Self, NoKind> {
+        match number {
             1 => Ok(Kind::Size),
             2 => Ok(Kind::Window),
             3 => Ok(Kind::Load),
@@ -46,15 +46,5 @@ impl Kind {
             Kind::Leaf => 1,
             Kind::Join | Kind::End => 0,
         }
-    }
-}
-
-// How long the body is after a kind byte, 0 after a byte that is no kind's.
-pub fn body_length(byte: u8) -> usize
-    ensures { (result ≡ body_length byte) × (result ≤ 4) }
-{
-    match Kind::try_from(byte) {
-        Ok(kind) => kind.body_length(),
-        Err(_) => 0,
     }
 }

@@ -5,16 +5,21 @@ ghost use Rattle.std.specs.Prelude.{◌≡◌};
 ghost use Rattle.modelfile.specs.File.{read_file};
 ghost use Rattle.modelfile.specs.Part.{PartAllows};
 
-use crate::kinds::body_length;
 use crate::model::{empty_model, first_place, slot_of};
-use crate::numbers::Centre;
-use crate::records::{Said, read_record};
-use modelfile::{Fault, Reading};
+use crate::numbers::{Centre, wide};
+use crate::records::{Said, body_length, read_record};
+use modelfile::{Fault, Model, Reading, Refusal};
 
 pub mod kinds; // kinds.rt: the kinds of record
 mod model; // model.rt: where a record notes something, and tests of the model
 pub mod numbers; // numbers.rt: centre and chain numbers with their ends
 pub mod records; // records.rt: one record
+
+fn reading(verdict: Result<(), Refusal>, m: Model) -> Reading
+    ensures { result ≡ record { verdict = verdict; model = m } }
+{
+    Reading { verdict, model: m }
+}
 
 // The loop lends a record the bytes from its kind byte on, so that a record sees constant indices only. A `while`, since each record's own
 // length leads on to the next one.
@@ -24,59 +29,42 @@ pub fn read_file(file: &[u8]) -> Reading
     let mut m = empty_model();
     let mut at = 0;
     while at < file.len() {
-        let next = at + 1 + body_length(file[at]);
-        match read_record(&file[at..], at, m) {
+        let here = at;
+        at = here + 1 + body_length(wide(file[here]));
+        match read_record(&file[here..], here, m) {
             Ok(Said::Size(centres, chains)) => {
                 m.centres = centres.n;
                 m.chains = chains.n;
-                at = next;
             }
             Ok(Said::Window(window)) => {
                 let i = m.given;
                 m.windows[i] = window;
                 m.given = i + 1;
-                at = next;
             }
             Ok(Said::Load(centre, chain, load)) => {
                 let i = slot_of(centre, chain);
                 m.loads[i] = load as u64;
                 m.passed = i + 1;
-                at = next;
             }
             Ok(Said::Leaf(centre)) => {
                 let i = m.count;
-                m.first = first_place(i, at, m.first);
+                m.first = first_place(i, here, m.first);
                 m.nodes[i] = centre.n;
                 m.count = i + 1;
                 m.trees += 1;
                 m.placed[centre.n - Centre::FIRST] = 1;
-                at = next;
             }
             Ok(Said::Join) => {
                 let i = m.count;
                 m.nodes[i] = 0;
                 m.count = i + 1;
                 m.trees -= 1;
-                at = next;
             }
-            Ok(Said::Last) => {
-                return Reading {
-                    verdict: Ok(()),
-                    model: m,
-                };
-            }
-            Err(r) => {
-                return Reading {
-                    verdict: Err(r),
-                    model: m,
-                };
-            }
+            Ok(Said::Last) => return reading(Ok(()), m),
+            Err(r) => return reading(Err(r), m),
         }
     }
-    Reading {
-        verdict: Err(Fault::Incomplete.at(at)),
-        model: m,
-    }
+    reading(Err(Fault::Incomplete.at(at)), m)
 }
 
 // The caller's own bytes, from the first leaf up to the end record; the empty part where the file is refused.

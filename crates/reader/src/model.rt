@@ -49,6 +49,8 @@ fn has_centre(loads: &[u64; 128], k: usize) -> bool
     (0..Centre::LAST).any(|c| loads[c * Chain::LAST + k] != 0)
 }
 
+// The clause is in std's words, which the check proves alone. Tried: `result ≡ chain_without_centre m`, by `SomeLaws.without_is`; the proof of
+// `returns` didn't close.
 fn chain_without_centre(m: Model) -> bool
     requires { m.chains ≤ 8 }
     ensures { result ≡ list_any (λ k. not (list_any (loaded m.loads k) (range_with_len 0 last_centre))) (range_with_len 0 m.chains) }

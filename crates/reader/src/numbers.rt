@@ -5,16 +5,21 @@ ghost use Rattle.reader.specs.Numbers.{numbered, field};
 
 use modelfile::{Fault, Refusal};
 
-// A number of one kind, from 1 to `last`: to the kind's LAST in the size record, to the number declared there afterwards.
+// Every kind of number begins here.
+const FIRST: usize = 1;
+
+// A number of one kind, from FIRST to `last`: to the kind's LAST in the size record, to the number declared there afterwards.
 #[derive(Clone, Copy, PartialEq, Eq)]
 pub struct Number<const LAST: usize> {
     pub n: usize,
 }
 
+// Two impls with constants, and no `impl<const LAST: usize>` with both: a generic impl's constant reaches the proofs as a call with no
+// clause, so that slot_of and has_centre would know nothing of it.
 pub type Centre = Number<16>;
 
 impl Centre {
-    pub const FIRST: usize = 1;
+    pub const FIRST: usize = FIRST;
 
     pub const LAST: usize = 16;
 }
@@ -22,7 +27,7 @@ impl Centre {
 pub type Chain = Number<8>;
 
 impl Chain {
-    pub const FIRST: usize = 1;
+    pub const FIRST: usize = FIRST;
 
     pub const LAST: usize = 8;
 }
@@ -31,7 +36,7 @@ impl<const LAST: usize> Number<LAST> {
     pub fn new(n: usize, last: usize) -> Option<Self>
         ensures { result ≡ numbered n last }
     {
-        if is_outside(1, last, n) {
+        if is_outside(FIRST, last, n) {
             return None;
         }
         Some(Number { n })
@@ -54,6 +59,7 @@ pub fn is_outside(first: usize, last: usize, n: usize) -> bool
     n < first || last < n
 }
 
+// `as` in a function, since the clause also tells callers the bound.
 pub fn wide(b: u8) -> usize
     ensures { (result ≡ b) × (result < 256) }
 {

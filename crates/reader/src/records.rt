@@ -3,7 +3,7 @@
 // handed back would cost a copy for each.
 ghost use Rattle.std.specs.Prelude.{◌≡◌, ◌≤◌, ◌<◌, eqb, length};
 ghost use Rattle.sums.specs.Lists.{some};
-ghost use Rattle.modelfile.specs.Records.{load_in, read_size, read_window, read_load, read_leaf, read_join, read_end, due, read_record};
+ghost use Rattle.modelfile.specs.Records.{body_length, load_in, read_size, read_window, read_load, read_leaf, read_join, read_end, due, read_record};
 ghost use Rattle.modelfile.proofs.SoundLaws.{Sound};
 ghost use Rattle.reader.specs.Bytes.{Holds};
 ghost use Rattle.reader.specs.Kinds.{kind_number};
@@ -82,15 +82,12 @@ fn read_leaf(rest: &[u8], at: usize, m: Model) -> Result<Said, Refusal>
     requires sound { Sound m }
     ensures { (said m at result ≡ read_leaf rest.now at m) × Room m result }
 {
-    let field = at + 1;
     let centre = Centre::field(rest, 1, at, m.centres)?;
-    let fails = first_leaf_fails(m);
-    let again = is_placed(m, centre);
-    if fails {
+    if first_leaf_fails(m) {
         return Err(Fault::ChainWithoutCentre.at(at));
     }
-    if again {
-        return Err(Fault::CentreAgain.at(field));
+    if is_placed(m, centre) {
+        return Err(Fault::CentreAgain.at(at + 1));
     }
     Ok(Said::Leaf(centre))
 }
@@ -135,12 +132,22 @@ fn is_due(m: Model, kind: Kind) -> bool
     matches!(kind, Kind::Leaf | Kind::Join | Kind::End)
 }
 
+// How long the body is after a kind byte, 0 after a byte that is no kind's.
+pub fn body_length(kind: usize) -> usize
+    ensures { (result ≡ body_length kind) × (result ≤ 4) }
+{
+    match Kind::try_from(kind) {
+        Ok(kind) => kind.body_length(),
+        Err(_) => 0,
+    }
+}
+
 pub fn read_record(rest: &[u8], at: usize, m: Model) -> Result<Said, Refusal>
     requires holds { Holds 1 rest.now at }
     requires sound { Sound m }
     ensures { (said m at result ≡ read_record rest.now at m) × Room m result }
 {
-    let Ok(kind) = Kind::try_from(rest[0]) else {
+    let Ok(kind) = Kind::try_from(wide(rest[0])) else {
         return Err(Fault::NotDue.at(at));
     };
     if !is_due(m, kind) {

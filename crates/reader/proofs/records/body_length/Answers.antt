@@ -1,4 +1,4 @@
--- `reader::kinds::body_length`. A kind's body is that of its byte; a byte that is no kind's has none.
+-- `reader::records::body_length`. A kind's body is that of its byte; a byte that is no kind's has none.
 use Prim.Native.Nat.{ℕ, zero, suc, ◌<◌, ◌≤◌}
 use mathlib.Core.Path.{◌≡◌, refl, ap, sym, ◌∙◌}
 use mathlib.Core.List.{[], ◌∷◌}
@@ -7,7 +7,7 @@ use lib.ListN.{get_or-eq_default}
 use Rattle.modelfile.specs.Records.{body_length}
 use Rattle.reader.specs.Kinds.{kind_number}
 use Rattle.reader.specs.declared.kinds.Kind.{Kind}
-use Rattle.reader.proofs.kinds.body_length.Goals as goal
+use Rattle.reader.proofs.records.body_length.Goals as goal
 
 none : (byte : ℕ) → (1 ≤ byte → 6 < byte) → 0 ≡ body_length byte
 unfolding body_length
