@@ -2,9 +2,8 @@
 #![tactic(auto)]
 
 ghost use Rattle.std.specs.Prelude.{◌≡◌, ◌≤◌, length};
-ghost use Rattle.calls.specs.Asked.{cells_in, pairs_listed};
-ghost use Rattle.plan.specs.Asking.{Ready};
-ghost use Rattle.plan.specs.Table.{windows_in};
+ghost use Rattle.calls.specs.Asked.{pairs_listed};
+ghost use Rattle.plan.specs.Asking.{Ready, run_windows, RoomFor};
 ghost use Rattle.joins.specs.Walk.{state, walk};
 ghost use Rattle.spends.specs.Joins.{JoinIn, NodeIn, join_pairs, node_pairs};
 
@@ -79,8 +78,8 @@ fn node_pairs(
 // The pairs of the table's joins, in order, until the walk ends.
 fn table_pairs(run: &Run, area: &mut [u64], q: Quota) -> Quota
     requires ready { Ready run.now }
-    requires room { cells_in run.now.model (windows_in run.now.model run.now.windows) ≤ length area.old }
-    ensures { state result area.new ≡ walk (pairs_listed run.now.model (windows_in run.now.model run.now.windows)) (state q area.old) }
+    requires room { RoomFor run.now (length area.old) }
+    ensures { state result area.new ≡ walk (pairs_listed run.now.model (run_windows run.now)) (state q area.old) }
 {
     let ch = run.chains();
     let mut e = q;
@@ -97,8 +96,8 @@ fn table_pairs(run: &Run, area: &mut [u64], q: Quota) -> Quota
 // The pairs of all joins, in order. Without a budget they are only skipped, all at once.
 pub fn spend(run: &Run, area: &mut [u64], q: Quota) -> Quota
     requires ready { Ready run.now }
-    requires room { cells_in run.now.model (windows_in run.now.model run.now.windows) ≤ length area.old }
-    ensures { state result area.new ≡ walk (pairs_listed run.now.model (windows_in run.now.model run.now.windows)) (state q area.old) }
+    requires room { RoomFor run.now (length area.old) }
+    ensures { state result area.new ≡ walk (pairs_listed run.now.model (run_windows run.now)) (state q area.old) }
 {
     if q.over {
         return q;
