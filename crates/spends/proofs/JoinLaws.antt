@@ -89,7 +89,8 @@ module _ {ch : Chains} {left right own : Node} {n : ℕ} (j : JoinIn ch left rig
   strided : (x : Node) (t : Tree) (start : ℕ) → x ≡ entry j.routes j.windows t start → take ch.count x.strides ≡ strides (spans_at j.routes (take ch.count ch.windows) t)
   strided x t start e = ap (λ c. take c x.strides) j.count_is ∙ strides_taken j.routes j.windows x t start e ∙ ap (λ w. strides (spans_at j.routes w t)) (sym windows_taken)
 
-  pub join_of : {parts : Join} → parts ≡ parts_of left right own → JoinOf (take ch.count ch.windows) (take ch.count left.strides) (take ch.count right.strides) (take ch.count own.strides) parts n
+  pub join_of : {parts : Join} → parts ≡ parts_of left right own
+      → JoinOf (take ch.count ch.windows) (take ch.count left.strides) (take ch.count right.strides) (take ch.count own.strides) parts n
   join_of is =
       let w = sym windows_taken in
       record {
@@ -106,10 +107,18 @@ module _ {ch : Chains} {left right own : Node} {n : ℕ} (j : JoinIn ch left rig
         own_strides = strided own (join j.l j.r) j.start j.own_is;
         left_from = ap (λ p. p.left.from) is ∙ base_at j.routes j.windows left j.l j.start j.left_is ∙ ap (λ w. base j.routes w j.l j.start) w;
         left_to = ap (λ p. p.left.to) is ∙ end_at j.routes j.windows left j.l j.start j.left_is ∙ ap (λ w. j.start + all_cells j.routes w j.l) w;
-        right_from = ap (λ p. p.right.from) is ∙ base_at j.routes j.windows right j.r (j.start + all_cells j.routes j.windows j.l) j.right_is ∙ ap (λ w. base j.routes w j.r (j.start + all_cells j.routes w j.l)) w;
-        right_to = ap (λ p. p.right.to) is ∙ end_at j.routes j.windows right j.r (j.start + all_cells j.routes j.windows j.l) j.right_is ∙ ap (λ w. j.start + all_cells j.routes w j.l + all_cells j.routes w j.r) w;
-        own_from = ap (λ p. p.own.from) is ∙ base_at j.routes j.windows own (join j.l j.r) j.start j.own_is ∙ ap (λ w. base j.routes w (join j.l j.r) j.start) w;
-        own_to = ap (λ p. p.own.to) is ∙ end_at j.routes j.windows own (join j.l j.r) j.start j.own_is ∙ ap (λ w. j.start + all_cells j.routes w (join j.l j.r)) w;
+        right_from =
+            ap (λ p. p.right.from) is ∙ base_at j.routes j.windows right j.r (j.start + all_cells j.routes j.windows j.l) j.right_is
+            ∙ ap (λ w. base j.routes w j.r (j.start + all_cells j.routes w j.l)) w;
+        right_to =
+            ap (λ p. p.right.to) is ∙ end_at j.routes j.windows right j.r (j.start + all_cells j.routes j.windows j.l) j.right_is
+            ∙ ap (λ w. j.start + all_cells j.routes w j.l + all_cells j.routes w j.r) w;
+        own_from =
+            ap (λ p. p.own.from) is ∙ base_at j.routes j.windows own (join j.l j.r) j.start j.own_is
+            ∙ ap (λ w. base j.routes w (join j.l j.r) j.start) w;
+        own_to =
+            ap (λ p. p.own.to) is ∙ end_at j.routes j.windows own (join j.l j.r) j.start j.own_is
+            ∙ ap (λ w. j.start + all_cells j.routes w (join j.l j.r)) w;
         room = subst (λ w. j.start + all_cells j.routes w (join j.l j.r) ≤ n) w j.room;
       }
 
