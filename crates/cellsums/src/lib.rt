@@ -60,7 +60,7 @@ pub fn add_row(
     Some(sum)
 }
 
-// Two rows with no call between their loops.
+// Two rows with no call between their loops, for the reason measured at add_row.
 pub fn add_two_rows(
     area: &[u64],
     left: Part,

@@ -23,7 +23,8 @@ fn reach(load: u64, cover: Cover, window: usize) -> Reach
     Reach { load, low, high }
 }
 
-// The chains of a leaf; past their number the entries are unused.
+// The chains of a leaf; past their number the entries are unused (an array of fixed length: there is no heap). The loads, the chains and the
+// entry come side by side: a struct would be made of the three at each node and taken apart here again, and the definitions name each.
 fn reaches(loads: &[u64], ch: &Chains, n: &Node) -> [Reach; 8]
     requires { LeafIn loads.now ch.now n.now }
     ensures { take ch.now.count result ≡ reaches_of (loads_in loads.now ch.now n.now) (spans_in ch.now n.now) }

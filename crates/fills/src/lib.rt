@@ -8,8 +8,7 @@ ghost use Rattle.std.specs.Prelude.{◌≡◌, false, ◌++◌, ◌+◌, ◌≤�
 ghost use Rattle.sums.specs.Lists.{some};
 ghost use Rattle.calls.specs.Asked.{cells_in, filled_by};
 ghost use Rattle.calls.specs.Start.{too_large};
-ghost use Rattle.plan.specs.Table.{windows_in};
-ghost use Rattle.plan.specs.Asking.{Ready};
+ghost use Rattle.plan.specs.Asking.{Ready, run_windows, RoomFor};
 ghost use Rattle.fills.specs.Nodes.{node_cells, put, NodeIn};
 
 use crate::leaves::{leaf_too_large, write_leaf};
@@ -45,7 +44,7 @@ fn write_node(loads: &[u64], ch: &Chains, n: &Node, area: &mut [u64])
 
 pub fn some_leaf_too_large(run: &Run) -> bool
     requires { Ready run.now }
-    ensures { result ≡ some too_large (filled_by run.now.model (windows_in run.now.model run.now.windows)) }
+    ensures { result ≡ some too_large (filled_by run.now.model (run_windows run.now)) }
 {
     let ch = run.chains();
     let nodes = &run.table.nodes[..run.table.count];
@@ -57,9 +56,9 @@ pub fn some_leaf_too_large(run: &Run) -> bool
 // The cells past the model's stay as they are.
 pub fn fill(run: &Run, area: &mut [u64])
     requires ready { Ready run.now }
-    requires room { cells_in run.now.model (windows_in run.now.model run.now.windows) ≤ length area.old }
-    requires none_large { some too_large (filled_by run.now.model (windows_in run.now.model run.now.windows)) ≡ false }
-    ensures { area.new ≡ filled_by run.now.model (windows_in run.now.model run.now.windows) ++ drop (cells_in run.now.model (windows_in run.now.model run.now.windows)) area.old }
+    requires room { RoomFor run.now (length area.old) }
+    requires none_large { some too_large (filled_by run.now.model (run_windows run.now)) ≡ false }
+    ensures { area.new ≡ filled_by run.now.model (run_windows run.now) ++ drop (cells_in run.now.model (run_windows run.now)) area.old }
 {
     let ch = run.chains();
     for n in &run.table.nodes[..run.table.count] {

@@ -85,6 +85,7 @@ pub fn flatten(
         rows: 0,
         count: 1,
     };
+    // four slices side by side: three zips would be no plainer
     for k in 0..windows.len() {
         u = add_chain(loops, rows, u, windows[k], left[k], right[k], own[k]);
     }

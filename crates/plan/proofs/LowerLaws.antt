@@ -1,17 +1,15 @@
 -- Lowering a chain, test by test.
-use Prim.Native.Nat.{ℕ, zero, suc, ◌-◌, ◌≤◌, ◌<◌}
+use Prim.Native.Nat.{ℕ, suc, ◌-◌, ◌≤◌, ◌<◌}
 use mathlib.Core.Path.{◌≡◌, refl, sym, ap, ◌∙◌}
 use mathlib.Core.Bool.{false}
-use mathlib.Core.List.{List, [], ◌∷◌}
 use native.Mathlib.Omega.{arith}
 use lib.Dec.{eqb}
-use lib.ListN.{get_or, take, set, length-set}
+use lib.ListN.{get_or, take, set}
 use lib.Seq.{get_or-take, take-set-lt}
 use borrow.Author.Tests.{lt-ltb, le-ltb, eq-eqb, ne_eqb}
 use Rattle.std.specs.Prelude.{Ok, Err}
 use Rattle.modelfile.specs.Network.{windows_of}
 use Rattle.modelfile.specs.declared.Model.{Model}
-use Rattle.modelfile.proofs.Guaranteed.{Guaranteed}
 use Rattle.calls.specs.Asked.{refused, granted, lowering}
 use Rattle.calls.specs.declared.Refusal.{Refusal}
 use Rattle.plan.specs.Lowered.{lowered_of}

@@ -2,8 +2,7 @@
 use Prim.Native.Nat.{ℕ}
 use mathlib.Core.Path.{◌≡◌, refl, sym, ap, subst, ◌∙◌}
 use mathlib.Core.List.{List}
-use native.Mathlib.Omega.{arith}
-use Rattle.std.specs.Prelude.{⊤, Result, Ok, Err}
+use Rattle.std.specs.Prelude.{Result, Ok, Err}
 use Rattle.modelfile.specs.File.{read_file}
 use Rattle.modelfile.specs.declared.Model.{Model}
 use Rattle.modelfile.specs.declared.Reading.{Reading}
@@ -14,11 +13,9 @@ use Rattle.calls.specs.Answers.{planned_as}
 use Rattle.calls.specs.Asked.{Asked, refused, lowering, ask}
 use Rattle.calls.specs.Plan.{plan}
 use Rattle.calls.specs.declared.Refusal.{Refusal}
-use Rattle.plan.specs.Table.{Tabled}
 use Rattle.plan.specs.Lowered.{lowered_of}
 use Rattle.plan.specs.Asking.{Ready, asked_of, RunFor}
 use Rattle.plan.specs.declared.Run.{Run}
-use Rattle.plan.specs.declared.Table.{Table}
 
 pub run_refused : {asked : Asked} (r : Refusal) → refused r ≡ asked → RunFor asked (Err r)
 unfolding asked_of

@@ -2,9 +2,9 @@
 use Rattle.std.specs.Prelude.{ℕ, ◌≤◌, ◌≡◌, List, Result, Ok, Err, IfOk, length, get_or, take}
 use Rattle.modelfile.specs.declared.Model.{Model}
 use Rattle.modelfile.proofs.Guaranteed.{Guaranteed}
-use Rattle.calls.specs.Asked.{Asked, refused, granted}
+use Rattle.calls.specs.Asked.{Asked, refused, granted, cells_in}
 use Rattle.calls.specs.declared.Refusal.{Refusal}
-use Rattle.plan.specs.Table.{Tabled}
+use Rattle.plan.specs.Table.{Tabled, windows_in}
 use Rattle.plan.specs.declared.Chains.{Chains}
 use Rattle.plan.specs.declared.Run.{Run}
 use Rattle.plan.specs.declared.Table.{Table}
@@ -18,6 +18,13 @@ pub record Prepared (m : Model) (windows : List ℕ) (t : Table) : Type 0 where
 
 abbrev pub Ready : Run → Type 0
 Ready run = Prepared run.model run.windows run.table
+
+-- the windows of a run, one a chain; and that an area of n cells has room for the run's cells
+abbrev pub run_windows : Run → List ℕ
+run_windows run = windows_in run.model run.windows
+
+abbrev pub RoomFor : Run → ℕ → Type 0
+RoomFor run n = cells_in run.model (run_windows run) ≤ n
 
 -- the chains of a run
 abbrev pub chains_of : {m : Model} {windows : List ℕ} {t : Table} → Prepared m windows t → Chains

@@ -24,7 +24,8 @@ pub enum Cover {
     Absent,
 }
 
-// The chains of a run: how many, how many centres each has in all, and their windows. Entries past the number of chains are unused.
+// The chains of a run: how many, how many centres each has in all, and their windows. Entries past the number of chains are unused. Two
+// arrays over eight chains side by side, since they come as they are from the table's and the model's rows.
 #[derive(Clone, Copy)]
 pub struct Chains {
     pub count: usize,
@@ -56,7 +57,7 @@ pub struct Shape {
 
 #[derive(Clone, Copy)]
 pub struct Node {
-    // a leaf's centre, 0 for a join
+    // a leaf's centre; 0 for a join is the model's own number of that node, handed through (specs/Table `entry`)
     pub centre: usize,
     // how many nodes its subtree has
     pub span: usize,
@@ -66,10 +67,11 @@ pub struct Node {
     pub base: usize,
     pub cells: usize,
     pub strides: [usize; 8],
-    // a join's own pairs, 0 for a leaf
+    // a join's own pairs; 0 for a leaf, which has none (specs/Table `pairs_at`)
     pub pairs: u64,
 }
 
+// A model's nodes in postorder. Fixed memory, with no heap: 31 nodes, and how many of them are used.
 #[derive(Clone, Copy)]
 pub struct Table {
     pub nodes: [Node; 31],
@@ -80,7 +82,8 @@ pub struct Table {
     pub pairs: u64,
 }
 
-// A model of an accepted file, the windows of a run of it, and their table.
+// A model of an accepted file, the windows of a run of it, and their table. That all this holds (Ready) stays a clause: a ghost field holds
+// a proposition, and Guaranteed has a witness (a chain's centre) and a permutation (tried: "nothing proves IsProp").
 #[derive(Clone, Copy)]
 pub struct Run {
     pub model: Model,

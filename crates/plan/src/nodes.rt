@@ -27,19 +27,19 @@ pub fn visiting(loads: &[u64; 128], centre: usize, k: usize) -> usize
     usize::from(visits(loads, centre, k))
 }
 
-fn leaf_counts(loads: &[u64; 128], chains: usize, centre: usize) -> [usize; 8]
-    requires { (1 ≤ centre) × (centre ≤ 16) × (chains ≤ 8) }
-    ensures { result ≡ row chains (λ k. count_by loads.now k (centre ∷ [])) }
+fn leaf_counts(ch: &Chains, loads: &[u64; 128], centre: usize) -> [usize; 8]
+    requires { (1 ≤ centre) × (centre ≤ 16) }
+    ensures { result ≡ row ch.now.count (λ k. count_by loads.now k (centre ∷ [])) }
 {
-    row(chains, |k| visiting(loads, centre, k))
+    row(ch.count, |k| visiting(loads, centre, k))
 }
 
 #[tactic(auto, unfolding(crate::specs::Steps::added))]
-fn join_counts(left: &[usize; 8], right: &[usize; 8], chains: usize) -> [usize; 8]
-    requires { (chains ≤ 8) × ((k : ℕ) → get_or left.now k 0 ≤ 31) × ((k : ℕ) → get_or right.now k 0 ≤ 31) }
-    ensures { result ≡ added chains left.now right.now }
+fn join_counts(ch: &Chains, left: &[usize; 8], right: &[usize; 8]) -> [usize; 8]
+    requires { ((k : ℕ) → get_or left.now k 0 ≤ 31) × ((k : ℕ) → get_or right.now k 0 ≤ 31) }
+    ensures { result ≡ added ch.now.count left.now right.now }
 {
-    row(chains, |k| left[k] + right[k])
+    row(ch.count, |k| left[k] + right[k])
 }
 
 // The product of the chains' factors; `joined` has the counts at the join.
@@ -61,7 +61,7 @@ pub fn leaf_node(ch: &Chains, loads: &[u64; 128], centre: usize, base: usize) ->
     requires { (1 ≤ centre) × (centre ≤ 16) }
     ensures { result ≡ node_leaf ch.now loads.now centre base }
 {
-    let counts = leaf_counts(loads, ch.count, centre);
+    let counts = leaf_counts(ch, loads, centre);
     let Shape { cells, strides } = shape(ch, &counts);
     Node {
         centre,
@@ -79,7 +79,7 @@ pub fn join_node(ch: &Chains, left: &Node, right: &Node, base: usize) -> Node
     requires { Small left.now × Small right.now }
     ensures { result ≡ node_joined ch.now left.now right.now base }
 {
-    let counts = join_counts(&left.counts, &right.counts, ch.count);
+    let counts = join_counts(ch, &left.counts, &right.counts);
     let Shape { cells, strides } = shape(ch, &counts);
     Node {
         centre: 0,

@@ -1,13 +1,11 @@
 // The table of a model, by a loop over its nodes with no stack: in postorder a join's right child is the entry before it, and its left
 // child the entry before the right subtree.
-ghost use Rattle.std.specs.Prelude.{◌≡◌, ℕ, ◌-◌, ◌≤◌, ◌<◌, length, get_or, take};
-ghost use Rattle.sums.specs.Lists.{from};
-ghost use Rattle.std.specs.Prelude.{count_by as counting, ◌+◌};
+ghost use Rattle.std.specs.Prelude.{◌≡◌, ℕ, ◌+◌, ◌-◌, ◌≤◌, ◌<◌, length, get_or, take, count_by as counting};
 ghost use Rattle.std.specs.List.{range_with_len};
-ghost use Rattle.plan.specs.Steps.{loaded_by};
+ghost use Rattle.sums.specs.Lists.{from};
 ghost use Rattle.modelfile.proofs.Guaranteed.{Guaranteed};
 ghost use Rattle.plan.specs.Table.{row, Tabled};
-ghost use Rattle.plan.specs.Steps.{count_by, left_of, right_of, node_by, empty_table, Small};
+ghost use Rattle.plan.specs.Steps.{loaded_by, count_by, left_of, right_of, node_by, empty_table, Small};
 
 use crate::nodes::{join_node, leaf_node, visits};
 use crate::rows::row;

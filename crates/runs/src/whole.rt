@@ -5,8 +5,7 @@ ghost use Rattle.modelfile.specs.Network.{centres_of};
 ghost use Rattle.modelfile.proofs.Guaranteed.{Guaranteed};
 ghost use Rattle.calls.specs.Asked.{cells_in};
 ghost use Rattle.arith.specs.Capped.{capped};
-ghost use Rattle.plan.specs.Table.{windows_in};
-ghost use Rattle.plan.specs.Asking.{Ready};
+ghost use Rattle.plan.specs.Asking.{Ready, run_windows, RoomFor};
 
 use crate::last_cell;
 use fills::{fill, some_leaf_too_large};
@@ -19,10 +18,10 @@ use spends::spend;
 // The cells past the model's stay as they are.
 pub fn run_value(run: &Run, area: &mut [u64]) -> Option<u64>
     requires ready { Ready run.now }
-    requires room { cells_in run.now.model (windows_in run.now.model run.now.windows) ≤ length area.old }
-    ensures value { result ≡ capped (value (centres_of run.now.model) (windows_in run.now.model run.now.windows)) }
+    requires room { RoomFor run.now (length area.old) }
+    ensures value { result ≡ capped (value (centres_of run.now.model) (run_windows run.now)) }
     ensures long { length area.new ≡ length area.old }
-    ensures past { drop (cells_in run.now.model (windows_in run.now.model run.now.windows)) area.new ≡ drop (cells_in run.now.model (windows_in run.now.model run.now.windows)) area.old }
+    ensures past { drop (cells_in run.now.model (run_windows run.now)) area.new ≡ drop (cells_in run.now.model (run_windows run.now)) area.old }
 {
     if some_leaf_too_large(run) {
         return None;

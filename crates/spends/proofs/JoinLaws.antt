@@ -17,9 +17,10 @@ use Rattle.plan.specs.declared.Chains.{Chains}
 use Rattle.plan.specs.declared.Node.{Node}
 use Rattle.joins.specs.Join.{JoinOf}
 use Rattle.joins.specs.Walk.{State, walk}
+use Rattle.cellsums.specs.declared.Part.{Part}
 use Rattle.joins.specs.declared.Join.{Join}
 use Rattle.joins.proofs.JoinLaws.{length-strides}
-use Rattle.spends.specs.Joins.{JoinIn, join_pairs}
+use Rattle.spends.specs.Joins.{part_of, JoinIn, join_pairs}
 
 -- an entry's strides, and its cells
 module _ (routes : List Route) (windows : List ℕ) (x : Node) (t : Tree) (start : ℕ) (is : x ≡ entry routes windows t start) where
@@ -49,8 +50,15 @@ module _ (routes : List Route) (windows : List ℕ) (x : Node) (t : Tree) (start
   unfolding entry
   end_at = ap (λ e. e.base + e.cells) is ∙ base_is routes windows t start
 
+abbrev parts_by : Part → Part → Part → Join
+parts_by x y z = record { left = x; right = y; own = z }
+
 abbrev pub parts_of : Node → Node → Node → Join
-parts_of left right own = record { left = record { from = left.base; to = left.base + left.cells }; right = record { from = right.base; to = right.base + right.cells }; own = record { from = own.base; to = own.base + own.cells } }
+parts_of left right own = parts_by (part_of left) (part_of right) (part_of own)
+
+pub parts_are : {x y z : Part} (left right own : Node) → x ≡ part_of left → y ≡ part_of right → z ≡ part_of own → parts_by x y z ≡ parts_of left right own
+parts_are {x} {y} {z} left right own a b c =
+    ap (λ v. parts_by v y z) a ∙ ap (λ v. parts_by (part_of left) v z) b ∙ ap (λ v. parts_by (part_of left) (part_of right) v) c
 
 module _ {ch : Chains} {left right own : Node} {n : ℕ} (j : JoinIn ch left right own n) where
   few_windows : length j.windows ≤ 8
@@ -81,8 +89,9 @@ module _ {ch : Chains} {left right own : Node} {n : ℕ} (j : JoinIn ch left rig
   strided : (x : Node) (t : Tree) (start : ℕ) → x ≡ entry j.routes j.windows t start → take ch.count x.strides ≡ strides (spans_at j.routes (take ch.count ch.windows) t)
   strided x t start e = ap (λ c. take c x.strides) j.count_is ∙ strides_taken j.routes j.windows x t start e ∙ ap (λ w. strides (spans_at j.routes w t)) (sym windows_taken)
 
-  pub join_of : JoinOf (take ch.count ch.windows) (take ch.count left.strides) (take ch.count right.strides) (take ch.count own.strides) (parts_of left right own) n
-  join_of =
+  pub join_of : {parts : Join} → parts ≡ parts_of left right own
+      → JoinOf (take ch.count ch.windows) (take ch.count left.strides) (take ch.count right.strides) (take ch.count own.strides) parts n
+  join_of is =
       let w = sym windows_taken in
       record {
         routes = j.routes;
@@ -96,16 +105,25 @@ module _ {ch : Chains} {left right own : Node} {n : ℕ} (j : JoinIn ch left rig
         left_strides = strided left j.l j.start j.left_is;
         right_strides = strided right j.r (j.start + all_cells j.routes j.windows j.l) j.right_is;
         own_strides = strided own (join j.l j.r) j.start j.own_is;
-        left_from = base_at j.routes j.windows left j.l j.start j.left_is ∙ ap (λ w. base j.routes w j.l j.start) w;
-        left_to = end_at j.routes j.windows left j.l j.start j.left_is ∙ ap (λ w. j.start + all_cells j.routes w j.l) w;
-        right_from = base_at j.routes j.windows right j.r (j.start + all_cells j.routes j.windows j.l) j.right_is ∙ ap (λ w. base j.routes w j.r (j.start + all_cells j.routes w j.l)) w;
-        right_to = end_at j.routes j.windows right j.r (j.start + all_cells j.routes j.windows j.l) j.right_is ∙ ap (λ w. j.start + all_cells j.routes w j.l + all_cells j.routes w j.r) w;
-        own_from = base_at j.routes j.windows own (join j.l j.r) j.start j.own_is ∙ ap (λ w. base j.routes w (join j.l j.r) j.start) w;
-        own_to = end_at j.routes j.windows own (join j.l j.r) j.start j.own_is ∙ ap (λ w. j.start + all_cells j.routes w (join j.l j.r)) w;
+        left_from = ap (λ p. p.left.from) is ∙ base_at j.routes j.windows left j.l j.start j.left_is ∙ ap (λ w. base j.routes w j.l j.start) w;
+        left_to = ap (λ p. p.left.to) is ∙ end_at j.routes j.windows left j.l j.start j.left_is ∙ ap (λ w. j.start + all_cells j.routes w j.l) w;
+        right_from =
+            ap (λ p. p.right.from) is ∙ base_at j.routes j.windows right j.r (j.start + all_cells j.routes j.windows j.l) j.right_is
+            ∙ ap (λ w. base j.routes w j.r (j.start + all_cells j.routes w j.l)) w;
+        right_to =
+            ap (λ p. p.right.to) is ∙ end_at j.routes j.windows right j.r (j.start + all_cells j.routes j.windows j.l) j.right_is
+            ∙ ap (λ w. j.start + all_cells j.routes w j.l + all_cells j.routes w j.r) w;
+        own_from =
+            ap (λ p. p.own.from) is ∙ base_at j.routes j.windows own (join j.l j.r) j.start j.own_is
+            ∙ ap (λ w. base j.routes w (join j.l j.r) j.start) w;
+        own_to =
+            ap (λ p. p.own.to) is ∙ end_at j.routes j.windows own (join j.l j.r) j.start j.own_is
+            ∙ ap (λ w. j.start + all_cells j.routes w (join j.l j.r)) w;
         room = subst (λ w. j.start + all_cells j.routes w (join j.l j.r) ≤ n) w j.room;
       }
 
   -- and walking it is walking the join's pairs
-  pub join_walked : (s : State) → walk (own_pairs join_of.routes (take ch.count ch.windows) join_of.left join_of.right join_of.start) s ≡ walk (join_pairs j) s
+  pub join_walked : {parts : Join} (is : parts ≡ parts_of left right own) (s : State)
+      → walk (own_pairs (join_of is).routes (take ch.count ch.windows) (join_of is).left (join_of is).right (join_of is).start) s ≡ walk (join_pairs j) s
   unfolding join_of
-  join_walked s = ap (λ w. walk (own_pairs j.routes w j.l j.r j.start) s) windows_taken
+  join_walked is s = ap (λ w. walk (own_pairs j.routes w j.l j.r j.start) s) windows_taken

@@ -39,11 +39,12 @@ module _ {ch : Chains} {left right own : Node} {n : ℕ} where
 
   -- a join that is passed over
   pub node_past : (q : Quota) (A : List ℕ) (x : NodeIn ch left right own n) → own.centre ≡ 0 → q.over ≡ false → own.pairs ≤ q.skip
-      → state (record { skip = q.skip - own.pairs; budget = q.budget; over = false }) A ≡ walk (node_pairs x) (state q A)
+      → state (record { skip = q.skip - own.pairs; budget = q.budget; over = q.over }) A ≡ walk (node_pairs x) (state q A)
   node_past q A (NodeIn.alone routes windows c start e h) z o k = absurd (omega (arith, leaf_centre own routes windows c start e))
   node_past q A (NodeIn.joined j) z o k =
       let c = join_count j in
-      sym (ap (λ b. walk (join_pairs j) (record { skip = q.skip; budget = q.budget; over = b; area = A })) o
+      ap (λ b. record { skip = q.skip - own.pairs; budget = q.budget; over = b; area = A }) o
+      ∙ sym (ap (λ b. walk (join_pairs j) (record { skip = q.skip; budget = q.budget; over = b; area = A })) o
       ∙ walk_past (join_pairs j) q.skip q.budget A (omega arith)
       ∙ ap (λ x. record { skip = q.skip - x; budget = q.budget; over = false; area = A }) c)
 
@@ -61,5 +62,6 @@ module _ {ch : Chains} {left right own : Node} {n : ℕ} where
 pub quota_over : (ps : List Pair) (q : Quota) (A : List ℕ) → q.over ≡ true → state q A ≡ walk ps (state q A)
 quota_over ps q A o = sym (ap (λ b. walk ps (record { skip = q.skip; budget = q.budget; over = b; area = A })) o ∙ walk_over ps q.skip q.budget A ∙ ap (λ b. record { skip = q.skip; budget = q.budget; over = b; area = A }) (sym o))
 
-pub quota_none : (ps : List Pair) (q : Quota) (A : List ℕ) (n k : ℕ) → length ps ≡ n → q.over ≡ false → q.budget ≡ 0 → k ≡ q.skip - n → state (record { skip = k; budget = 0; over = false }) A ≡ walk ps (state q A)
+pub quota_none : (ps : List Pair) (q : Quota) (A : List ℕ) (n k : ℕ) → length ps ≡ n → q.over ≡ false → q.budget ≡ 0 → k ≡ q.skip - n
+    → state (record { skip = k; budget = q.budget; over = q.over }) A ≡ walk ps (state q A)
 quota_none ps q A n k counted o z e = sym (rw (o, z) (walk_none ps q.skip A ∙ rw (counted, ← e)))

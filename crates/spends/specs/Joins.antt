@@ -8,6 +8,11 @@ use Rattle.network.proofs.CoverageLaws.{Parted}
 use Rattle.plan.specs.Table.{entry}
 use Rattle.plan.specs.declared.Chains.{Chains}
 use Rattle.plan.specs.declared.Node.{Node}
+use Rattle.cellsums.specs.declared.Part.{Part}
+
+-- where a node's own cells lie
+abbrev pub part_of : Node → Part
+part_of node = record { from = node.base; to = node.base + node.cells }
 
 -- a join: of which routes, windows and subtrees, where their cells begin, and that they lie in an area of n cells
 pub record JoinIn (ch : Chains) (left right own : Node) (n : ℕ) : Type 0 where

@@ -1,16 +1,26 @@
 // The pairs of a table's joins, one join after the other, with a skip and a budget.
 #![tactic(auto)]
 
-ghost use Rattle.std.specs.Prelude.{◌≡◌, ◌≤◌, length};
-ghost use Rattle.calls.specs.Asked.{cells_in, pairs_listed};
-ghost use Rattle.plan.specs.Asking.{Ready};
-ghost use Rattle.plan.specs.Table.{windows_in};
+ghost use Rattle.std.specs.Prelude.{◌≡◌, ◌+◌, ◌^◌, ◌<◌, length};
+ghost use Rattle.calls.specs.Asked.{pairs_listed};
+ghost use Rattle.plan.specs.Asking.{Ready, run_windows, RoomFor};
 ghost use Rattle.joins.specs.Walk.{state, walk};
-ghost use Rattle.spends.specs.Joins.{JoinIn, NodeIn, join_pairs, node_pairs};
+ghost use Rattle.spends.specs.Joins.{part_of, JoinIn, NodeIn, join_pairs, node_pairs};
 
 use cellsums::Part;
 use joins::{Join, Quota};
 use plan::{Chains, Node, Run};
+
+// Where a node's own cells lie.
+fn part_of(node: &Node) -> Part
+    requires { node.now.base + node.now.cells < 2 ^ 64 }
+    ensures { result ≡ part_of node.now }
+{
+    Part {
+        from: node.base,
+        to: node.base + node.cells,
+    }
+}
 
 // The pairs of a join, from the table's entries of its children and its own.
 fn join_pairs(
@@ -26,18 +36,9 @@ fn join_pairs(
 {
     let n = ch.count;
     let parts = Join {
-        left: Part {
-            from: left.base,
-            to: left.base + left.cells,
-        },
-        right: Part {
-            from: right.base,
-            to: right.base + right.cells,
-        },
-        own: Part {
-            from: own.base,
-            to: own.base + own.cells,
-        },
+        left: part_of(left),
+        right: part_of(right),
+        own: part_of(own),
     };
     joins::walk_join(
         area,
@@ -69,8 +70,7 @@ fn node_pairs(
     if pairs <= q.skip {
         return Quota {
             skip: q.skip - pairs,
-            budget: q.budget,
-            over: false,
+            ..q
         };
     }
     join_pairs(ch, left, right, own, area, q)
@@ -79,8 +79,8 @@ fn node_pairs(
 // The pairs of the table's joins, in order, until the walk ends.
 fn table_pairs(run: &Run, area: &mut [u64], q: Quota) -> Quota
     requires ready { Ready run.now }
-    requires room { cells_in run.now.model (windows_in run.now.model run.now.windows) ≤ length area.old }
-    ensures { state result area.new ≡ walk (pairs_listed run.now.model (windows_in run.now.model run.now.windows)) (state q area.old) }
+    requires room { RoomFor run.now (length area.old) }
+    ensures { state result area.new ≡ walk (pairs_listed run.now.model (run_windows run.now)) (state q area.old) }
 {
     let ch = run.chains();
     let mut e = q;
@@ -97,8 +97,8 @@ fn table_pairs(run: &Run, area: &mut [u64], q: Quota) -> Quota
 // The pairs of all joins, in order. Without a budget they are only skipped, all at once.
 pub fn spend(run: &Run, area: &mut [u64], q: Quota) -> Quota
     requires ready { Ready run.now }
-    requires room { cells_in run.now.model (windows_in run.now.model run.now.windows) ≤ length area.old }
-    ensures { state result area.new ≡ walk (pairs_listed run.now.model (windows_in run.now.model run.now.windows)) (state q area.old) }
+    requires room { RoomFor run.now (length area.old) }
+    ensures { state result area.new ≡ walk (pairs_listed run.now.model (run_windows run.now)) (state q area.old) }
 {
     if q.over {
         return q;
@@ -106,8 +106,7 @@ pub fn spend(run: &Run, area: &mut [u64], q: Quota) -> Quota
     if q.budget == 0 {
         return Quota {
             skip: q.skip.saturating_sub(run.table.pairs as usize),
-            budget: 0,
-            over: false,
+            ..q
         };
     }
     table_pairs(run, area, q)

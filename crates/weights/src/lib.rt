@@ -102,7 +102,8 @@ fn fill(chains: &[Reach], acc: u64, before: usize, out: &mut [u64], at: usize) -
     }
 }
 
-// The chains that are present at a leaf, in their order: those whose highest value is not 0.
+// The chains that are present at a leaf, in their order: those whose highest value is not 0. A count beside an array of fixed length, since
+// there is no heap.
 #[derive(Clone, Copy)]
 struct Present {
     count: usize,

@@ -1,17 +1,17 @@
 -- `join_pairs` meets its contract: the table's entries describe the join.
 use mathlib.Core.Path.{◌∙◌}
 use native.Mathlib.Omega.{arith}
-use Rattle.spends.proofs.JoinLaws.{ends, left_long, right_long, own_long, join_of, join_walked}
+use Rattle.spends.proofs.JoinLaws.{ends, parts_are, left_long, right_long, own_long, join_of, join_walked}
 use Rattle.spends.proofs.join_pairs.Goals as goal
 
-pub overflow_add-parts : goal.overflow_add-parts
-overflow_add-parts c = omega (arith, (ends c.requires).0, c.well_formed)
+pub part_of-requires : goal.part_of-requires
+part_of-requires c = omega (arith, (ends c.requires).0, c.well_formed)
 
-pub overflow_add-parts-2 : goal.overflow_add-parts-2
-overflow_add-parts-2 c = omega (arith, (ends c.requires).1, c.well_formed)
+pub part_of-requires-2 : goal.part_of-requires-2
+part_of-requires-2 c = omega (arith, (ends c.requires).1, c.well_formed)
 
-pub overflow_add-parts-3 : goal.overflow_add-parts-3
-overflow_add-parts-3 c = omega (arith, (ends c.requires).2, c.well_formed)
+pub part_of-requires-3 : goal.part_of-requires-3
+part_of-requires-3 c = omega (arith, (ends c.requires).2, c.well_formed)
 
 pub slice_bounds-walk_join-end-2 : goal.slice_bounds-walk_join-end-2
 slice_bounds-walk_join-end-2 c = omega (arith, left_long c.requires, c.args.ch.now.chains_few)
@@ -23,7 +23,9 @@ pub slice_bounds-walk_join-end-4 : goal.slice_bounds-walk_join-end-4
 slice_bounds-walk_join-end-4 c = omega (arith, own_long c.requires, c.args.ch.now.chains_few)
 
 pub walk_join-requires : goal.walk_join-requires
-walk_join-requires c = join_of c.requires
+walk_join-requires c = join_of c.requires (parts_are c.args.left.now c.args.right.now c.args.own.now c.part_of.ensures c.part_of-2.ensures c.part_of-3.ensures)
 
 pub returns : goal.returns
-returns c j = c.walk_join.ensures (join_of j) ∙ join_walked j _
+returns c j =
+    let is = parts_are c.args.left.now c.args.right.now c.args.own.now c.part_of.ensures c.part_of-2.ensures c.part_of-3.ensures in
+    c.walk_join.ensures (join_of j is) ∙ join_walked j is _
