@@ -25,6 +25,7 @@ const DRAWN: usize = 80;
 struct Case<'a> {
     model: &'a Model,
     due: Due,
+    // a flag, since all else is the same for lines and drawn models
     is_line: bool,
 }
 

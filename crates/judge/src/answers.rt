@@ -54,7 +54,7 @@ impl Run {
     }
 }
 
-// With these budgets so many slots reach the last pair.
+// With these budgets so many slots reach the last pair. The slots are a number, since the contract names 4.
 pub fn budget(pairs: u64, slots: u64) -> u64
     ensures four { slots ≡ 4 → pairs < 4 * result }
     ensures other { slots ≢ 4 → result ≡ pairs }

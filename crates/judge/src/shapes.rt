@@ -1,6 +1,7 @@
 // What models are drawn from. With a window of 5 a load of 65535 is always enough to reach 2^64.
 use states::draws::Shape;
 
+// A function, since a constant may not hold 1..=16.
 pub fn shapes() -> [(&'static str, Shape); 13] {
     [
         (

@@ -2,7 +2,7 @@
 -- numerator is 0, so at the end the row is that of all eight.
 use Prim.Native.Nat.{ℕ, zero, suc, ◌+◌, ◌-◌, ◌≤◌, ◌<◌, ◌^◌}
 use mathlib.Core.Path.{◌≡◌, refl, sym, ap, subst, ◌∙◌}
-use mathlib.Core.Bool.{Bool, true, false, true≢false}
+use mathlib.Core.Bool.{Bool, true, false}
 use mathlib.Core.List.Memᴰ
 use mathlib.Core.List.{List, ◌∷◌, ◌++◌, map, Memᴰ}
 use native.Mathlib.Omega.{arith}

@@ -32,8 +32,8 @@ pub fn numerators(m: &Model, area: &mut [u64]) -> Option<[u64; 8]>
     ensures kept { Kept (cells_in m.now (windows_of m.now)) area.old area.new }
 {
     let mut numbers = [0u64; 8];
-    for k in 0..m.chains {
-        numbers[k] = numerator(m, k as u64 + 1, area)?;
+    for (k, number) in numbers[..m.chains].iter_mut().enumerate() {
+        *number = numerator(m, k as u64 + 1, area)?;
     }
     Some(numbers)
 }

@@ -55,6 +55,7 @@ impl Draws {
     }
 
     fn draw_chains(&mut self, shape: &Shape, model: &mut Model) {
+        // tried over iter_mut: a field of a struct with a ghost fact can't be lent from behind a reference
         for k in 0..model.chain_count {
             model.chains[k].window = self.within(&shape.windows);
             model.chains[k].home = self.below(model.centres as u64) as usize;
@@ -63,6 +64,7 @@ impl Draws {
 
     // A chain visits its home, and each other centre by chance.
     fn draw_loads(&mut self, shape: &Shape, model: &mut Model) {
+        // every place draws, so that the draws don't depend on the model's size
         for c in 0..CENTRES {
             for k in 0..CHAINS {
                 let by_chance = self.below(16) < shape.visits;

@@ -14,6 +14,7 @@ fn is_below(table: &mut Table, model: &Model) -> bool {
 }
 
 // The last load up to 65535 with a value below 2^64, by its binary digits from the highest on; 0 if there is none.
+// An Option is no plainer: the digits grow from 0, and the caller raises 0 to 1.
 fn last_below(table: &mut Table, model: &Model) -> u16 {
     let mut load = 0;
     for j in 0u32..16 {

@@ -65,6 +65,7 @@ impl Tree {
     }
 
     // The number of a centre, which the model may not have; 0 for none.
+    // An Option is no plainer: 0 is passed over as a number past the model's centres is.
     fn leaf(self, i: u64) -> u64
         ensures { result < 17 }
     {

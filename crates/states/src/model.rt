@@ -18,7 +18,7 @@ pub struct Chain {
 }
 
 // Of `chains`, those past the first `chain_count` have window 0. The load of a chain at a centre is `loads[centre][chain]`, 0 where it does not
-// visit.
+// visit. No heap: there is room for the most of both, and all of it is gone through alike.
 #[derive(Clone, Copy)]
 pub struct Model {
     pub centres: usize,
@@ -93,11 +93,7 @@ impl Model {
 fn sum_of(loads: &[u16; CHAINS]) -> u64
     ensures { result ≡ sum loads.now }
 {
-    let mut sum = 0;
-    for load in loads {
-        sum += u64::from(*load);
-    }
-    sum
+    loads.iter().map(|load| u64::from(*load)).sum()
 }
 
 // A model of at most two chains and three centres: how many of each, the windows, and by centre the loads of the two chains.

@@ -54,9 +54,9 @@ impl Table {
     // A chain's step is the product of the windows + 1 of those before it.
     fn set_digits(&mut self, model: &Model) {
         let mut step: usize = 1;
-        for (k, chain) in model.chains.iter().enumerate() {
+        for (digit, chain) in self.digits.iter_mut().zip(&model.chains) {
             let radix = usize::from(chain.window) + 1;
-            self.digits[k] = Digit { step, radix };
+            *digit = Digit { step, radix };
             step = step.saturating_mul(radix);
         }
         self.size = step;
@@ -86,6 +86,7 @@ impl Table {
 }
 
 fn fill_centre(weights: &mut [Option<u64>], digits: &[Digit; CHAINS], loads: &[u16; CHAINS]) {
+    // each weight needs those before it
     for index in 0..weights.len() {
         weights[index] = next_weight(&weights[..index], digits, loads);
     }

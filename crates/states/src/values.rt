@@ -11,9 +11,9 @@ pub type Due = [Option<u64>; RUNS];
 pub fn find_values(table: &mut Table, model: &Model) -> Result<Due, LeftOut> {
     table.fill(model)?;
     let mut due = [Some(0); RUNS];
-    for lower in 0..RUNS {
+    for (lower, value_due) in due.iter_mut().enumerate() {
         if let Some(lowered) = model.lowered(lower) {
-            due[lower] = value(table, &lowered)?;
+            *value_due = value(table, &lowered)?;
         }
     }
     Ok(due)

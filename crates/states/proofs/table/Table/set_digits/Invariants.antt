@@ -2,5 +2,5 @@
 use Prim.Native.Nat.{◌<◌}
 use Rattle.states.proofs.table.Table.set_digits.Given as goal
 
-abbrev pub invariant-loop-k : goal.invariant-loop-k
-invariant-loop-k l = 0 < l.step
+abbrev pub invariant-loop-digit : goal.invariant-loop-digit
+invariant-loop-digit l = 0 < l.step
