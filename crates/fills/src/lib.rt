@@ -8,7 +8,7 @@ ghost use Rattle.std.specs.Prelude.{◌≡◌, false, ◌++◌, ◌+◌, ◌≤�
 ghost use Rattle.sums.specs.Lists.{some};
 ghost use Rattle.calls.specs.Asked.{cells_in, filled_by};
 ghost use Rattle.calls.specs.Start.{too_large};
-ghost use Rattle.plan.specs.Asking.{Ready, run_windows, RoomFor};
+ghost use Rattle.plan.specs.Asking.{Ready, windows_of_run, RoomFor};
 ghost use Rattle.fills.specs.Nodes.{node_cells, put, NodeIn};
 
 use crate::leaves::{leaf_too_large, write_leaf};
@@ -44,7 +44,7 @@ fn write_node(loads: &[u64], ch: &Chains, n: &Node, area: &mut [u64])
 
 pub fn some_leaf_too_large(run: &Run) -> bool
     requires { Ready run.now }
-    ensures { result ≡ some too_large (filled_by run.now.model (run_windows run.now)) }
+    ensures { result ≡ some too_large (filled_by run.now.model (windows_of_run run.now)) }
 {
     let ch = run.chains();
     let nodes = &run.table.nodes[..run.table.count];
@@ -57,8 +57,8 @@ pub fn some_leaf_too_large(run: &Run) -> bool
 pub fn fill(run: &Run, area: &mut [u64])
     requires ready { Ready run.now }
     requires room { RoomFor run.now (length area.old) }
-    requires none_large { some too_large (filled_by run.now.model (run_windows run.now)) ≡ false }
-    ensures { area.new ≡ filled_by run.now.model (run_windows run.now) ++ drop (cells_in run.now.model (run_windows run.now)) area.old }
+    requires none_large { some too_large (filled_by run.now.model (windows_of_run run.now)) ≡ false }
+    ensures { area.new ≡ filled_by run.now.model (windows_of_run run.now) ++ drop (cells_in run.now.model (windows_of_run run.now)) area.old }
 {
     let ch = run.chains();
     for n in &run.table.nodes[..run.table.count] {

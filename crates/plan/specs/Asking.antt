@@ -20,11 +20,11 @@ abbrev pub Ready : Run → Type 0
 Ready run = Prepared run.model run.windows run.table
 
 -- the windows of a run, one a chain; and that an area of n cells has room for the run's cells
-abbrev pub run_windows : Run → List ℕ
-run_windows run = windows_in run.model run.windows
+abbrev pub windows_of_run : Run → List ℕ
+windows_of_run run = windows_in run.model run.windows
 
 abbrev pub RoomFor : Run → ℕ → Type 0
-RoomFor run n = cells_in run.model (run_windows run) ≤ n
+RoomFor run n = cells_in run.model (windows_of_run run) ≤ n
 
 -- the chains of a run
 abbrev pub chains_of : {m : Model} {windows : List ℕ} {t : Table} → Prepared m windows t → Chains

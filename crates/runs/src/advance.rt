@@ -3,7 +3,7 @@ ghost use Rattle.std.specs.Prelude.{◌≡◌, ◌-◌, ◌≤◌, eqb, length, 
 ghost use Rattle.sums.specs.Choice.{choose};
 ghost use Rattle.calls.specs.Advance.{advance_in};
 ghost use Rattle.calls.specs.Promises.{AdvanceAllows};
-ghost use Rattle.plan.specs.Asking.{Ready, run_windows};
+ghost use Rattle.plan.specs.Asking.{Ready, windows_of_run};
 
 use crate::{last_cell, no_room};
 use calls::{Advanced, Halted, Refusal};
@@ -25,8 +25,8 @@ fn value_at(area: &[u64], t: &Table, done: u64) -> u64
 
 fn advance_in(run: &Run, done: u64, budget: u64, area: &mut [u64]) -> Result<Advanced, Halted>
     requires { Ready run.now }
-    ensures answer { result ≡ (advance_in run.now.model (run_windows run.now) done budget area.old).answer }
-    ensures left { area.new ≡ (advance_in run.now.model (run_windows run.now) done budget area.old).area }
+    ensures answer { result ≡ (advance_in run.now.model (windows_of_run run.now) done budget area.old).answer }
+    ensures left { area.new ≡ (advance_in run.now.model (windows_of_run run.now) done budget area.old).area }
 {
     if no_room(run.table.cells, area.len()) {
         return Err(Halted::Refused(Refusal::NoRoom));

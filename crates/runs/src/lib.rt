@@ -7,7 +7,7 @@ pub mod whole; // whole.rt: a whole run in one call
 ghost use Rattle.std.specs.Prelude.{◌≡◌, ◌||◌, ◌-◌, ◌≤◌, ltb, length, get_or};
 ghost use Rattle.calls.specs.Start.{start_in};
 ghost use Rattle.calls.specs.Promises.{StartAllows};
-ghost use Rattle.plan.specs.Asking.{Ready, run_windows};
+ghost use Rattle.plan.specs.Asking.{Ready, windows_of_run};
 
 use calls::Refusal;
 use fills::{fill, some_leaf_too_large};
@@ -31,8 +31,8 @@ pub fn last_cell(area: &[u64], cells: usize) -> u64
 
 fn start_in(run: &Run, area: &mut [u64]) -> Result<(), Refusal>
     requires { Ready run.now }
-    ensures answer { result ≡ (start_in run.now.model (run_windows run.now) area.old).answer }
-    ensures left { area.new ≡ (start_in run.now.model (run_windows run.now) area.old).area }
+    ensures answer { result ≡ (start_in run.now.model (windows_of_run run.now) area.old).answer }
+    ensures left { area.new ≡ (start_in run.now.model (windows_of_run run.now) area.old).area }
 {
     if no_room(run.table.cells, area.len()) {
         return Err(Refusal::NoRoom);

@@ -5,7 +5,7 @@ ghost use Rattle.modelfile.specs.Network.{centres_of};
 ghost use Rattle.modelfile.proofs.Guaranteed.{Guaranteed};
 ghost use Rattle.calls.specs.Asked.{cells_in};
 ghost use Rattle.arith.specs.Capped.{capped};
-ghost use Rattle.plan.specs.Asking.{Ready, run_windows, RoomFor};
+ghost use Rattle.plan.specs.Asking.{Ready, windows_of_run, RoomFor};
 
 use crate::last_cell;
 use fills::{fill, some_leaf_too_large};
@@ -19,9 +19,9 @@ use spends::spend;
 pub fn run_value(run: &Run, area: &mut [u64]) -> Option<u64>
     requires ready { Ready run.now }
     requires room { RoomFor run.now (length area.old) }
-    ensures value { result ≡ capped (value (centres_of run.now.model) (run_windows run.now)) }
+    ensures value { result ≡ capped (value (centres_of run.now.model) (windows_of_run run.now)) }
     ensures long { length area.new ≡ length area.old }
-    ensures past { drop (cells_in run.now.model (run_windows run.now)) area.new ≡ drop (cells_in run.now.model (run_windows run.now)) area.old }
+    ensures past { drop (cells_in run.now.model (windows_of_run run.now)) area.new ≡ drop (cells_in run.now.model (windows_of_run run.now)) area.old }
 {
     if some_leaf_too_large(run) {
         return None;

@@ -3,7 +3,7 @@
 
 ghost use Rattle.std.specs.Prelude.{◌≡◌, ◌+◌, ◌^◌, ◌<◌, length};
 ghost use Rattle.calls.specs.Asked.{pairs_listed};
-ghost use Rattle.plan.specs.Asking.{Ready, run_windows, RoomFor};
+ghost use Rattle.plan.specs.Asking.{Ready, windows_of_run, RoomFor};
 ghost use Rattle.joins.specs.Walk.{state, walk};
 ghost use Rattle.spends.specs.Joins.{part_of, JoinIn, NodeIn, join_pairs, node_pairs};
 
@@ -80,7 +80,7 @@ fn node_pairs(
 fn table_pairs(run: &Run, area: &mut [u64], q: Quota) -> Quota
     requires ready { Ready run.now }
     requires room { RoomFor run.now (length area.old) }
-    ensures { state result area.new ≡ walk (pairs_listed run.now.model (run_windows run.now)) (state q area.old) }
+    ensures { state result area.new ≡ walk (pairs_listed run.now.model (windows_of_run run.now)) (state q area.old) }
 {
     let ch = run.chains();
     let mut e = q;
@@ -98,7 +98,7 @@ fn table_pairs(run: &Run, area: &mut [u64], q: Quota) -> Quota
 pub fn spend(run: &Run, area: &mut [u64], q: Quota) -> Quota
     requires ready { Ready run.now }
     requires room { RoomFor run.now (length area.old) }
-    ensures { state result area.new ≡ walk (pairs_listed run.now.model (run_windows run.now)) (state q area.old) }
+    ensures { state result area.new ≡ walk (pairs_listed run.now.model (windows_of_run run.now)) (state q area.old) }
 {
     if q.over {
         return q;
