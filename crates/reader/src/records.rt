@@ -29,6 +29,8 @@ const LARGEST_WINDOW: usize = 15;
 
 const LARGEST_LOAD: usize = 65535;
 
+// `rest`, `at` and `m` stay three. Tried: a `Record` of them whose invariant has Sound and the places' bound, with a method for each kind. It
+// proves, but with it the library's sheets of m4, m5, m6 and m8 take 3 to 7 percent longer (bench/run, twice).
 fn read_size(rest: &[u8], at: usize, m: Model) -> Result<Said, Refusal>
     requires { Holds 3 rest.now at }
     ensures { (said m at result ≡ read_size rest.now at m) × Room m result }
