@@ -1,5 +1,4 @@
 // What the scope document says of B's area: its cells after some pairs, and how many it needs.
-use crate::told::advanced;
 use judge::lines::B;
 use states::files::{Tree, file_of};
 use std::io;
@@ -7,7 +6,7 @@ use std::io;
 fn tell_area(rt: &impl Print, file: &[u8], pairs: u64) -> io::Result<()> {
     let mut area = [7; 12];
     let _ = runs::start(file, 0, &mut area);
-    advanced(file, 0, 0, pairs, &mut area);
+    let _ = runs::advance::advance(file, 0, 0, pairs, &mut area);
     print!(rt; "B's area after {pairs}:")?;
     for cell in &area[..11] {
         print!(rt; " {cell}")?;

@@ -1,7 +1,16 @@
 -- What is due of a run, and of the area after a sheet.
-use Rattle.std.specs.Prelude.{◌≡◌, ◌≢◌, ℕ, ◌<◌, Option, None, Some, Ok, Err, List, length, take, slice_index, All}
+use Rattle.std.specs.Prelude.{◌≡◌, ◌≢◌, ℕ, ◌<◌, Option, None, Some, Ok, Err, Result, List, length, take, slice_index, All}
 use Rattle.calls.specs.declared.Refusal.{Refusal}
+use Rattle.calls.specs.declared.Advanced.{Advanced}
+use Rattle.calls.specs.declared.Halted.{Halted}
 use Rattle.judge.specs.declared.answers.Run.{Run}
+use Rattle.judge.specs.declared.answers.Told.{Told}
+
+-- What an advance told, a halt before a cell of 2^64 as too large, and a refusal with nothing done.
+abbrev pub told_of : Result Advanced Halted → Told
+told_of (Ok a) = record { done = a.done; value = Ok a.value }
+told_of (Err (Halted.Stopped done)) = record { done = done; value = Err Refusal.TooLarge }
+told_of (Err (Halted.Refused refusal)) = record { done = 0; value = Err refusal }
 
 -- "2^64 or more" is refused as too large, a chain with no messages to lower as such, and else all pairs are done and the value is the one due.
 abbrev pub Tells : Run → Option ℕ → Type 0

@@ -1,8 +1,8 @@
 // What a run and a sheet tell, and whether it is what is due.
 ghost use Rattle.std.specs.Prelude.{◌≡◌, ◌≢◌, ◌*◌, ◌<◌, ◌↔◌, IsTrue};
-ghost use Rattle.judge.specs.Due.{IsCleared, Tells};
+ghost use Rattle.judge.specs.Due.{IsCleared, Tells, told_of};
 
-use calls::{Planned, Refusal, Sheet};
+use calls::{Advanced, Halted, Planned, Refusal, Sheet};
 use states::model::Model;
 use states::values::Due;
 use std::io;
@@ -12,6 +12,28 @@ use std::io;
 pub struct Told {
     pub done: u64,
     pub value: Result<u64, Refusal>,
+}
+
+// What an advance tells. A refusal has done nothing.
+impl From<Result<Advanced, Halted>> for Told {
+    ghost from_gives = { λ answer result. result ≡ told_of answer };
+
+    fn from(answer: Result<Advanced, Halted>) -> Told {
+        match answer {
+            Ok(Advanced { done, value }) => Told {
+                done,
+                value: Ok(value),
+            },
+            Err(Halted::Stopped { done }) => Told {
+                done,
+                value: Err(Refusal::TooLarge),
+            },
+            Err(Halted::Refused(refusal)) => Told {
+                done: 0,
+                value: Err(refusal),
+            },
+        }
+    }
 }
 
 // A plan, what a run by it tells in the end, and whether the cell past the model's was left.
@@ -75,8 +97,8 @@ pub fn is_cleared(area: &[u64], cells: u64, foreign: u64) -> bool
 // The sheet due, if no value is 2^64 or more. Past the chains the values due are 0, as the numerators are.
 fn accepted(model: &Model, due: &Due, plan: Planned) -> Option<Sheet> {
     let mut numerators = [0; 8];
-    for (k, value) in due[1..].iter().enumerate() {
-        numerators[k] = (*value)?;
+    for (numerator, value) in numerators.iter_mut().zip(&due[1..]) {
+        *numerator = (*value)?;
     }
     Some(Sheet {
         value: due[0]?,

@@ -79,8 +79,8 @@ impl Tally {
     pub fn add(&mut self, other: &Tally)
         ensures { (k : ℕ) → k < 8 → slice_index self.new.0 k ≡ sum_at self.old.0 other.now.0 k }
     {
-        for (k, n) in other.0.iter().enumerate() {
-            self.0[k] = self.0[k].saturating_add(*n);
+        for (k, n) in self.0.iter_mut().enumerate() {
+            *n = n.saturating_add(other.0[k]);
         }
     }
 }

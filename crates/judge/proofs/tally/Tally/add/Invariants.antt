@@ -7,4 +7,4 @@ use Rattle.judge.proofs.tally.Tally.add.Given as goal
 
 abbrev pub invariant-loop-k : goal.invariant-loop-k
 invariant-loop-k l =
-    ((k : ℕ) → k < l.k → slice_index l.self.0 k ≡ sum_at l.fn.self.0 l.other.0 k) × ((k : ℕ) → l.k ≤ k → slice_index l.self.0 k ≡ slice_index l.fn.self.0 k)
+    ((k : ℕ) → k < l.k → slice_index l.n-items k ≡ sum_at l.fn.self.0 l.other.0 k) × ((k : ℕ) → l.k ≤ k → slice_index l.n-items k ≡ slice_index l.fn.self.0 k)
