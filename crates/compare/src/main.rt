@@ -15,7 +15,7 @@ use states::model::Model;
 use states::table::Table;
 use states::values::{Due, find_values};
 use std::io;
-use told::{Asked, FOREIGN};
+use told::{Call, FOREIGN};
 
 // The models drawn of each shape, two by two where they come by two.
 const DRAWN: usize = 80;
@@ -52,13 +52,13 @@ impl Comparison {
     fn hold_runs(&mut self, rt: &impl Print, case: &Case, file: &[u8]) -> io::Result<()> {
         for lower in 0..=case.model.chain_count {
             let due = case.due[lower];
-            let asked = Asked {
+            let call = Call {
                 file,
                 lower: lower as u64,
             };
-            let in_four = asked.run(4, &mut self.area);
+            let in_four = call.run(4, &mut self.area);
             self.tally.hold(Count::Runs, in_four.is_due(due));
-            let at_once = asked.run(1, &mut self.area);
+            let at_once = call.run(1, &mut self.area);
             self.tally.hold(Count::Runs, at_once.is_due(due));
             if case.is_line {
                 at_once.tell(rt, lower, due)?;
@@ -69,7 +69,7 @@ impl Comparison {
 
     // The sheet, which clears the model's cells and leaves the one past them.
     fn hold_sheet(&mut self, case: &Case, file: &[u8]) {
-        let plan = Asked { file, lower: 0 }.planned();
+        let plan = Call { file, lower: 0 }.planned();
         told::mark(&mut self.area, plan.cells);
         let sheet = ratesheet::sheet(file, &mut self.area);
         let agrees = sheet == sheet_due(case.model, &case.due, plan)

@@ -14,12 +14,12 @@ pub fn mark(area: &mut [u64], cells: u64) {
 
 // A file and the chain to lower, 0 for none.
 #[derive(Clone, Copy)]
-pub struct Asked<'a> {
+pub struct Call<'a> {
     pub file: &'a [u8],
     pub lower: u64,
 }
 
-impl Asked<'_> {
+impl Call<'_> {
     pub fn planned(self) -> Planned {
         plan::plan(self.file, self.lower).unwrap_or(Planned { cells: 0, pairs: 0 })
     }
