@@ -63,5 +63,5 @@ pub quota_over : (ps : List Pair) (q : Quota) (A : List ℕ) → q.over ≡ true
 quota_over ps q A o = sym (ap (λ b. walk ps (record { skip = q.skip; budget = q.budget; over = b; area = A })) o ∙ walk_over ps q.skip q.budget A ∙ ap (λ b. record { skip = q.skip; budget = q.budget; over = b; area = A }) (sym o))
 
 pub quota_none : (ps : List Pair) (q : Quota) (A : List ℕ) (n k : ℕ) → length ps ≡ n → q.over ≡ false → q.budget ≡ 0 → k ≡ q.skip - n
-    → state (record { skip = k; budget = q.budget; over = q.over }) A ≡ walk ps (state q A)
+    → state (record { skip = k; budget = 0; over = false }) A ≡ walk ps (state q A)
 quota_none ps q A n k counted o z e = sym (rw (o, z) (walk_none ps q.skip A ∙ rw (counted, ← e)))
