@@ -7,7 +7,7 @@ ghost use Rattle.calls.specs.Sheet.{load_sum, busiest};
 
 use modelfile::Model;
 
-// The sum of a centre's loads.
+// The sum of a centre's loads. That the model is Guaranteed stays a clause, for the reason at plan's Run.
 fn load_sum(m: Model, centre: usize) -> u64
     requires { Guaranteed m × (1 ≤ centre) × (centre ≤ m.centres) }
     ensures { result ≡ load_sum m centre }

@@ -7,7 +7,8 @@ ghost use Rattle.sums.specs.Sums.{sum_over};
 ghost use Rattle.arith.specs.Capped.{capped};
 ghost use Rattle.cellsums.specs.Places.{places, product, Within};
 
-// A node's cells in the area.
+// A node's cells in the area. A left and a right part come side by side: the definitions (Within, product, places) speak of each alone, and
+// joins' Join holds both beside its own.
 #[derive(Clone, Copy)]
 pub struct Part {
     pub from: usize,

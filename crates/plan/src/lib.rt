@@ -91,7 +91,7 @@ pub struct Run {
     pub table: Table,
 }
 
-// "Plan returns cells and pairs."
+// "Plan returns cells and pairs." The chain to lower is a number, 0 for none, as document 01 and the calls for C have it.
 pub fn plan(file: &[u8], lower: u64) -> Result<Planned, Refusal>
     ensures { PlanAllows file.now lower result }
 {

@@ -13,7 +13,7 @@ use modelfile::Model;
 use plan::windows::lowered;
 use runs::whole::whole_value;
 
-// "A chain with window 0 has numerator 0 and isn't run."
+// "A chain with window 0 has numerator 0 and isn't run." That the model is Guaranteed stays a clause, for the reason at plan's Run.
 fn numerator(m: &Model, chain: u64, area: &mut [u64]) -> Option<u64>
     requires guaranteed { Guaranteed m.now × (1 ≤ chain) × (cells_in m.now (windows_of m.now) ≤ length area.old) }
     ensures value { result ≡ capped (numerator m.now chain) }

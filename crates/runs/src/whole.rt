@@ -39,7 +39,7 @@ pub fn run_value(run: &Run, area: &mut [u64]) -> Option<u64>
     Some(last_cell(area, run.table.cells))
 }
 
-// The same, where there is no table yet.
+// The same, where there is no table yet: docs/MAP.md names it for the value, with these clauses.
 pub fn whole_value(m: Model, windows: [usize; 8], area: &mut [u64]) -> Option<u64>
     requires guaranteed { Guaranteed m × (length windows ≡ 8) × ((k : ℕ) → get_or windows k 0 ≤ 15) }
     requires room { cells_in m (take m.chains windows) ≤ length area.old }
