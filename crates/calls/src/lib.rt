@@ -67,14 +67,14 @@ pub struct Planned {
     pub pairs: u64,
 }
 
-// What an advance tells: the new number done, and the value once that is the total, else 0.
+// What an advance tells: the new number done, and the value once that is the total, else 0 (document 01 has the 0, so no Option).
 #[derive(Clone, Copy, PartialEq, Eq)]
 pub struct Advanced {
     pub done: u64,
     pub value: u64,
 }
 
-// Why an advance ends early.
+// Why an advance ends early: at a pair, with the pairs before it in the area and a number done, or refused with the area untouched.
 #[derive(Clone, Copy, PartialEq, Eq)]
 pub enum Halted {
     // the number done before the pair that would reach 2^64
@@ -90,6 +90,7 @@ impl From<Refusal> for Halted {
     }
 }
 
+// Eight numerators and how many chains, as document 01 and the header have them: fixed memory.
 #[derive(Clone, Copy, PartialEq, Eq)]
 pub struct Sheet {
     pub value: u64,

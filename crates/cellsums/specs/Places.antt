@@ -10,6 +10,13 @@ unfoldable pub places : List Row → ℕ → ℕ → List (ℕ × ℕ)
 places [] l r = (l, r) ∷ []
 places (row ∷ rows) l r = flat_map (λ j. places rows (l + j * row.left) (r + (row.count - 1 - j) * row.right)) (from 0 row.count)
 
+-- rows written as numbers, three a row; one or two numbers left over are no row
+unfoldable pub rows_in : List ℕ → List Row
+rows_in [] = []
+rows_in (n ∷ []) = []
+rows_in (n ∷ a ∷ []) = []
+rows_in (n ∷ a ∷ b ∷ rows) = record { count = n; left = a; right = b } ∷ rows_in rows
+
 -- how far the places reach
 unfoldable pub reach_left : List Row → ℕ
 reach_left [] = 0

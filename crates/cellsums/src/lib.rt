@@ -5,10 +5,10 @@
 ghost use Rattle.std.specs.Prelude.{◌≡◌, [], ◌∷◌, ◌+◌, ◌≤◌, ◌<◌, length, get_or};
 ghost use Rattle.sums.specs.Sums.{sum_over};
 ghost use Rattle.arith.specs.Capped.{capped};
-ghost use Rattle.cellsums.specs.Places.{places, product, Within};
+ghost use Rattle.cellsums.specs.Places.{places, product, rows_in, Within};
 
-// A node's cells in the area. A left and a right part come side by side: the definitions (Within, product, places) speak of each alone, and
-// joins' Join holds both beside its own.
+// A node's cells in the area. A left and a right part come side by side: the definitions (Within, product, places) speak of each alone, and so
+// of the places l and r; joins' Join holds both parts beside its own.
 #[derive(Clone, Copy)]
 pub struct Part {
     pub from: usize,
@@ -145,4 +145,41 @@ pub fn cell_sum(
         [row] => add_row(area, left, right, *row, l, r, acc),
         _ => add_rows(area, left, right, rows, l, r, acc),
     }
+}
+
+// The same, of rows written as numbers, three a row. It stands for what `cell_sum` took before it took rows; the joins have rows at hand.
+pub fn flat_sum(
+    area: &[u64],
+    left: Part,
+    right: Part,
+    rows: &[usize],
+    l: usize,
+    r: usize,
+    acc: u64,
+) -> Option<u64>
+    requires { Within (length area.now) left right (rows_in rows.now) l r }
+    ensures { result ≡ capped (acc + sum_over (places (rows_in rows.now) l r) (product area.now left right)) }
+{
+    let [count, to_left, to_right, others @ ..] = rows else {
+        return add_pair(area, left, right, l, r, acc);
+    };
+    let row = Row {
+        count: *count,
+        left: *to_left,
+        right: *to_right,
+    };
+    let mut sum = acc;
+    for j in 0..row.count {
+        let k = row.count - 1 - j;
+        sum = flat_sum(
+            area,
+            left,
+            right,
+            others,
+            l + j * row.left,
+            r + k * row.right,
+            sum,
+        )?;
+    }
+    Some(sum)
 }

@@ -15,7 +15,7 @@ const B: [u8; 38] = [
 // What a byte is set to.
 const VALUES: [u8; 12] = [0, 1, 2, 3, 4, 5, 6, 7, 8, 16, 17, 255];
 
-// Number and place of a refusal, or 0 0 with cells and pairs.
+// Number and place of a refusal, or 0 0 with cells and pairs: this program's words alone, so no Display.
 fn answer(rt: &impl Print, file: &[u8], lower: u64) -> io::Result<()> {
     match plan::plan(file, lower) {
         Ok(plan) => println!(rt; " 0 0 {} {}", plan.cells, plan.pairs),

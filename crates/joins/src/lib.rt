@@ -38,8 +38,8 @@ pub struct Turn {
     pub count: usize,
 }
 
-// How many pairs are still to be skipped and to be added, and whether a pair ended the walk: all three are read after the end, since a walk
-// that is over has a budget left.
+// How many pairs are still to be skipped and to be added, and whether a pair ended the walk. No Result: the budget left is read of a walk
+// that is over too (runs' number done), and the skip goes on from join to join.
 #[derive(Clone, Copy)]
 pub struct Quota {
     pub skip: usize,

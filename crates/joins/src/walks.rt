@@ -14,7 +14,8 @@ fn put(own: &mut [u64], i: usize, v: u64)
     own[i] = v;
 }
 
-// One pair: the children lent for reading, then the join's own cells lent on to be written.
+// One pair: the children lent for reading, then the join's own cells lent on to be written. The places come one by one, here and in
+// walk_rows: t stays while l and r move, and a Turn has a count, which a row has not.
 fn walk_pair(area: &mut [u64], join: Join, l: usize, r: usize, t: usize, q: Quota) -> Quota
     requires { Inside (length area.old) join [] l r t }
     ensures { state result area.new ≡ walk (cell_pairs join [] l r t) (state q area.old) }

@@ -63,6 +63,7 @@ impl Run {
             }
     }
 
+    // printed here, and not by Display, since what is due stands in the line too
     pub fn tell(self, rt: &impl Print, lower: usize, due: Option<u64>) -> io::Result<()> {
         let Planned { pairs, cells } = self.plan;
         print!(rt; "\n  lowered {lower}: pairs {pairs} cells {cells} states")?;

@@ -5,7 +5,8 @@
 ghost use Rattle.std.specs.Prelude.{◌≡◌};
 ghost use Rattle.modelfile.specs.Refusals.{fault_number};
 
-// What the records up to some place have given. Arrays of fixed length with a count beside: there is no heap on a board.
+// What the records up to some place have given. Arrays of fixed length with a count beside (there is
+// no heap on a board), and 0 for a join, for no load and for a centre not yet placed: the definitions (specs/Records, specs/File) speak of these.
 #[derive(Clone, Copy)]
 pub struct Model {
     // the size record: how many centres and chains

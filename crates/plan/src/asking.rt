@@ -19,6 +19,7 @@ impl Run {
     }
 }
 
+// That the model is Guaranteed stays a clause, for the reason at Run (lib.rt).
 pub fn run_of(m: Model, lower: u64) -> Result<Run, Refusal>
     requires { Guaranteed m }
     ensures { RunFor (lowering m lower) result }

@@ -22,7 +22,7 @@ pub fn coverage(count: usize, total: usize) -> Cover
     }
 }
 
-// How many values the chain's index has.
+// How many values the chain's index has. Windows stay numbers with a clause: a type of their own would ask more of callers.
 #[tactic(auto, unfolding(crate::specs::Steps::covering, network::specs::Cells::span, network::specs::Cells::size))]
 pub fn size(c: Cover, window: usize) -> usize
     requires { window ≤ 15 }

@@ -84,7 +84,8 @@ pub fn empty_table(totals: [usize; 8]) -> Table
     }
 }
 
-// The table grows where it stands: handed on, each node would cost a copy of all.
+// The table grows where it stands: handed on, each node would cost a copy of all. Its clauses stay clauses: Guaranteed for the reason at Run
+// (lib.rt), the windows since a narrower type would ask more of callers.
 pub fn make_table(m: Model, windows: [usize; 8]) -> Table
     requires { Guaranteed m × ((k : ℕ) → get_or windows k 0 ≤ 15) × (length windows ≡ 8) }
     ensures { Tabled m windows result }

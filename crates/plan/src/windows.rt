@@ -7,6 +7,7 @@ ghost use Rattle.plan.specs.Lowered.{lowered_of};
 use calls::Refusal;
 use modelfile::Model;
 
+// That the model is Guaranteed stays a clause, for the reason at Run (lib.rt).
 pub fn lowered(m: Model, lower: u64) -> Result<[usize; 8], Refusal>
     requires { Guaranteed m }
     ensures answer { lowered_of m result ≡ lowering m lower }

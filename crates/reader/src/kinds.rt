@@ -17,6 +17,7 @@ pub enum Kind {
 #[derive(Clone, Copy, PartialEq, Eq)]
 pub struct NoKind;
 
+// The one place where a number becomes a kind, so a match on numbers.
 impl TryFrom<usize> for Kind {
     type Error = NoKind;
 

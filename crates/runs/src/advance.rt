@@ -50,7 +50,8 @@ fn advance_in(run: &Run, done: u64, budget: u64, area: &mut [u64]) -> Result<Adv
     })
 }
 
-// "It adds pairs to whatever the area holds"; what it refuses it leaves untouched.
+// "It adds pairs to whatever the area holds"; what it refuses it leaves untouched. The file, the chain and the area come
+// one by one, as the calls for C have them.
 pub fn advance(
     file: &[u8],
     lower: u64,

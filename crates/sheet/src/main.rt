@@ -15,7 +15,7 @@ fn print(rt: &impl Print, answer: Result<Sheet, Refusal>) -> io::Result<()> {
     }
 }
 
-// The rates are not reduced.
+// The rates are not reduced. Printed here, and not by Display: these are this program's words alone.
 fn tell(rt: &impl Print, sheet: Sheet) -> io::Result<()> {
     let value = sheet.value;
     println!(rt;

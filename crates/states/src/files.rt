@@ -4,7 +4,7 @@ ghost use Rattle.std.specs.Prelude.{◌<◌};
 use crate::model::Model;
 use arrayvec::ArrayVec;
 
-// The kinds of records, written here once more: what holds the library to account shares nothing with it.
+// The kinds of records, written here once more: what holds the library to account shares nothing with it but arith.
 #[derive(Clone, Copy)]
 enum Kind {
     Size = 1,

@@ -33,7 +33,7 @@ impl Digit {
     }
 }
 
-// `size` entries for each centre; a weight of 2^64 or more is None.
+// `size` entries for each centre; a weight of 2^64 or more is None. Fixed memory, as in the library.
 #[derive(Drop)]
 pub struct Table {
     digits: [Digit; CHAINS],

@@ -5,7 +5,8 @@ use crate::table::{LeftOut, Table};
 
 const RUNS: usize = CHAINS + 1;
 
-// Of the whole model, then with each chain lowered: None for 2^64 or more, and 0 where the chain has no messages.
+// Of the whole model, then with each chain lowered: None for 2^64 or more, and 0 where the chain has no messages: document
+// 01's numerator of such a chain, which is told as it is.
 pub type Due = [Option<u64>; RUNS];
 
 pub fn find_values(table: &mut Table, model: &Model) -> Result<Due, LeftOut> {

@@ -2,12 +2,9 @@
 use mathlib.Core.Path.{sym, ap, ◌∙◌}
 use lib.ListN.{length}
 use native.Mathlib.Omega.{arith}
-use Rattle.cellsums.proofs.RowLaws.{sum_begins, sum_again, sum_stops, sum_ends}
-use Rattle.cellsums.proofs.PlaceLaws.{within_turn, within_as, left_low, right_low, sum_as, first_rest}
+use Rattle.cellsums.proofs.RowLaws.{sum_again, sum_stops, sum_ends}
+use Rattle.cellsums.proofs.PlaceLaws.{within_turn, left_low, right_low, sum_as}
 use Rattle.cellsums.proofs.+add_rows.Goals as goal
-
-pub loop-j-init : goal.loop-j-init
-loop-j-init t c = let e = first_rest c.args.rows.now _ c.in-len1-up.len_at_least in record { rows_are = e; within = within_as e c.requires; summed = sum_begins (omega arith) }
 
 pub overflow_mul-j : goal.overflow_mul-j
 overflow_mul-j t c = omega (arith, left_low c.loop-j.invariant.within _ c.loop-j-test.true)

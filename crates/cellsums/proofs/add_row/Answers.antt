@@ -1,12 +1,9 @@
 -- `add_row` meets its contract: one turn a pair.
 use mathlib.Core.Path.{sym, ◌∙◌}
 use native.Mathlib.Omega.{arith}
-use Rattle.cellsums.proofs.RowLaws.{sum_begins, sum_again, sum_stops, sum_ends}
+use Rattle.cellsums.proofs.RowLaws.{sum_again, sum_stops, sum_ends}
 use Rattle.cellsums.proofs.PlaceLaws.{within_turn, left_low, right_low}
 use Rattle.cellsums.proofs.add_row.Goals as goal
-
-pub loop-j-init : goal.loop-j-init
-loop-j-init c = sum_begins (omega arith)
 
 pub overflow_mul-j : goal.overflow_mul-j
 overflow_mul-j c = omega (arith, left_low c.requires _ c.loop-j-test.true)

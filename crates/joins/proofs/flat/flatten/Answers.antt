@@ -1,9 +1,6 @@
 -- `flatten` meets its contract: one turn a chain.
-use Rattle.joins.proofs.BuildLaws.{building_none, building_room, building_more, built}
+use Rattle.joins.proofs.BuildLaws.{building_room, building_more, built}
 use Rattle.joins.proofs.flat.flatten.Goals as goal
-
-pub loop-k-init : goal.loop-k-init
-loop-k-init c = building_none _ _ _ _ c.requires.2 _ _ c.requires.0 c.requires.1
 
 pub add_chain-u-requires : goal.add_chain-u-requires
 add_chain-u-requires c = building_room _ _ _ _ c.requires.2 _ _ _ _ c.loop-k.invariant c.loop-k-test.true
