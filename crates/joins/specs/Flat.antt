@@ -20,7 +20,8 @@ with_chain true true f n a b c = record {
   count = f.count;
 }
 with_chain true false f n a b c = record { loops = f.loops; rows = f.rows ++ (record { count = n + 1; left = a; right = b } ∷ []); count = f.count * (n + 1) }
-with_chain false true f n a b c = record { loops = f.loops ++ (record { count = n + 1; row = None; left = a; right = b; own = c } ∷ []); rows = f.rows; count = f.count }
+with_chain false true f n a b c =
+    record { loops = f.loops ++ (record { count = n + 1; row = None; left = a; right = b; own = c } ∷ []); rows = f.rows; count = f.count }
 with_chain false false f n a b c = f
 
 abbrev pub add_chain : Flat → ℕ → ℕ → ℕ → ℕ → Flat

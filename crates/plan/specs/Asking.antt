@@ -28,7 +28,8 @@ RoomFor run n = cells_in run.model (windows_of_run run) ≤ n
 
 -- the chains of a run
 abbrev pub chains_of : {m : Model} {windows : List ℕ} {t : Table} → Prepared m windows t → Chains
-chains_of {m} {windows} {t} p = record { count = m.chains; totals = t.totals; windows = windows; chains_few = p.guaranteed.chains_range.1; window_range = p.windows_low }
+chains_of {m} {windows} {t} p =
+    record { count = m.chains; totals = t.totals; windows = windows; chains_few = p.guaranteed.chains_range.1; window_range = p.windows_low }
 
 -- what the code answers, as the definition of the calls has it: the windows of the run stand at the front of their array
 unfoldable pub asked_of : Result Run Refusal → Asked

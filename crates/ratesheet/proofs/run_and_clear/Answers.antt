@@ -1,12 +1,9 @@
 -- `run_and_clear` meets its contract: 12 where the area has no room, else the runs, and the model's cells set to 0.
-use Rattle.ratesheet.proofs.SheetLaws.{room_none, room_is, room_some}
+use Rattle.ratesheet.proofs.SheetLaws.{room_none, room_some}
 use Rattle.ratesheet.proofs.run_and_clear.Goals as goal
 
 pub returns-then-no_room : goal.returns-then-no_room
 returns-then-no_room c = let e = room_none c.requires.full c.args.area.now c.no_room.ensures c.if-no_room.true in record { answer = e.0; left = e.1 }
-
-pub run_all-answer-requires : goal.run_all-answer-requires
-run_all-answer-requires c = record { full = c.requires.full; room = room_is c.requires.full c.args.area.now c.no_room.ensures c.if-no_room.false }
 
 pub returns : goal.returns
 returns c =

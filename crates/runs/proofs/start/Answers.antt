@@ -7,8 +7,5 @@ use Rattle.runs.proofs.start.Goals as goal
 pub returns-in_err-run : goal.returns-in_err-run
 returns-in_err-run c = left_is (start_refused _ _ _ c.in_err-run.ensures) (handed_on _ c.from_residual.ensures.1, refl)
 
-pub start_in-requires : goal.start_in-requires
-start_in-requires c = c.in_ok-run.ensures.ready
-
 pub returns : goal.returns
 returns c = left_is (start_granted _ _ _ c.in_ok-run.ensures) (c.start_in.ensures.answer, c.start_in.ensures.left)

@@ -1,7 +1,7 @@
 -- `join_pairs` meets its contract: the table's entries describe the join.
 use mathlib.Core.Path.{◌∙◌}
 use native.Mathlib.Omega.{arith}
-use Rattle.spends.proofs.JoinLaws.{ends, parts_are, left_long, right_long, own_long, join_of, join_walked}
+use Rattle.spends.proofs.JoinLaws.{ends, parts_are, join_of, join_walked}
 use Rattle.spends.proofs.join_pairs.Goals as goal
 
 pub part_of-requires : goal.part_of-requires
@@ -12,15 +12,6 @@ part_of-requires-2 c = omega (arith, (ends c.requires).1, c.well_formed)
 
 pub part_of-requires-3 : goal.part_of-requires-3
 part_of-requires-3 c = omega (arith, (ends c.requires).2, c.well_formed)
-
-pub slice_bounds-walk_join-end-2 : goal.slice_bounds-walk_join-end-2
-slice_bounds-walk_join-end-2 c = omega (arith, left_long c.requires, c.args.ch.now.chains_few)
-
-pub slice_bounds-walk_join-end-3 : goal.slice_bounds-walk_join-end-3
-slice_bounds-walk_join-end-3 c = omega (arith, right_long c.requires, c.args.ch.now.chains_few)
-
-pub slice_bounds-walk_join-end-4 : goal.slice_bounds-walk_join-end-4
-slice_bounds-walk_join-end-4 c = omega (arith, own_long c.requires, c.args.ch.now.chains_few)
 
 pub walk_join-requires : goal.walk_join-requires
 walk_join-requires c = join_of c.requires (parts_are c.args.left.now c.args.right.now c.args.own.now c.part_of.ensures c.part_of-2.ensures c.part_of-3.ensures)

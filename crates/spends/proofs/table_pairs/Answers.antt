@@ -1,15 +1,10 @@
 -- `table_pairs` meets its contract: after i nodes the walk has gone over the pairs of the first i.
 use mathlib.Core.Path.{sym, ◌∙◌}
-use native.Mathlib.Omega.{arith}
-use Rattle.plan.proofs.PreparedLaws.{count_few}
 use Rattle.spends.proofs.TableLaws.{walked_first, walked_turn, walked_last, walked_left, node_ready}
 use Rattle.spends.proofs.table_pairs.Goals as goal
 
 pub loop-i-init : goal.loop-i-init
 loop-i-init c = walked_first _ _ _ _
-
-pub children-requires : goal.children-requires
-children-requires c = omega (arith, c.loop-i-test.true, count_few c.requires.ready)
 
 pub node_pairs-e-requires : goal.node_pairs-e-requires
 node_pairs-e-requires c =

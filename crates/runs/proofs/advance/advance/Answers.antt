@@ -8,8 +8,5 @@ use Rattle.runs.proofs.advance.advance.Goals as goal
 pub returns-in_err-run : goal.returns-in_err-run
 returns-in_err-run c = left_is (advance_refused _ _ _ _ _ c.in_err-run.ensures) (handed_on _ c.from_residual.ensures.1, refl)
 
-pub advance_in-requires : goal.advance_in-requires
-advance_in-requires c = c.in_ok-run.ensures.ready
-
 pub returns : goal.returns
 returns c = left_is (advance_granted _ _ _ _ _ c.in_ok-run.ensures) (c.advance_in.ensures.answer, c.advance_in.ensures.left)

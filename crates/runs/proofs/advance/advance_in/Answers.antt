@@ -1,7 +1,7 @@
 -- `advance_in` meets its contract: no room, more done than there are pairs, or the pairs are spent.
 use mathlib.Core.Path.{refl}
 use native.Mathlib.Omega.{arith}
-use Rattle.runs.proofs.StartLaws.{left_is, room}
+use Rattle.runs.proofs.StartLaws.{left_is}
 use Rattle.runs.proofs.SpentLaws.{budget_low, done_low, value_room, advance_full, advance_high, advance_stopped, advance_advanced}
 use Rattle.runs.proofs.advance.advance_in.Goals as goal
 
@@ -10,9 +10,6 @@ returns-then-no_room c = let both = left_is (advance_full _ _ _ c.requires _ _ _
 
 pub returns-then-run-done : goal.returns-then-run-done
 returns-then-run-done c = let both = left_is (advance_high _ _ _ c.requires _ _ _ c.no_room.ensures c.if-no_room.false c.if-run-done.true) (refl, refl) in record { answer = both.0; left = both.1 }
-
-pub spend-left-requires : goal.spend-left-requires
-spend-left-requires c = record { ready = c.requires; room = room _ _ _ c.requires c.args.area.now c.no_room.ensures c.if-no_room.false }
 
 pub overflow_sub-after : goal.overflow_sub-after
 overflow_sub-after c = budget_low _ _ _ c.requires _ _ _ c.spend-left.ensures

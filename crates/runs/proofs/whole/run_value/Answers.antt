@@ -1,20 +1,11 @@
 -- `run_value` meets its contract: a leaf too large, a pair that stops, or all pairs done.
-use mathlib.Core.Path.{refl, sym, ap, ◌∙◌}
+use mathlib.Core.Path.{refl, ap, ◌∙◌}
 use Rattle.std.specs.Prelude.{Some}
-use Rattle.runs.proofs.WholeLaws.{whole_large, room_filled, whole_kept, whole_stopped, whole_exact, last_inside}
+use Rattle.runs.proofs.WholeLaws.{whole_large, whole_kept, whole_stopped, whole_exact, last_inside}
 use Rattle.runs.proofs.whole.run_value.Goals as goal
-
-pub some_leaf_too_large-requires : goal.some_leaf_too_large-requires
-some_leaf_too_large-requires c = c.requires.ready
 
 pub returns-then-some_leaf_too_large : goal.returns-then-some_leaf_too_large
 returns-then-some_leaf_too_large c = record { value = whole_large _ _ _ c.requires.ready c.args.area.now c.requires.room c.some_leaf_too_large.ensures c.if-some_leaf_too_large.true; long = refl; past = refl }
-
-pub fill-requires : goal.fill-requires
-fill-requires c = record { ready = c.requires.ready; room = c.requires.room; none_large = sym c.some_leaf_too_large.ensures ∙ c.if-some_leaf_too_large.false }
-
-pub spend-left-requires : goal.spend-left-requires
-spend-left-requires c = record { ready = c.requires.ready; room = room_filled _ _ _ c.requires.ready _ c.requires.room c.some_leaf_too_large.ensures c.if-some_leaf_too_large.false c.fill.ensures }
 
 pub returns-then-left : goal.returns-then-left
 returns-then-left c = record { value = whole_stopped _ _ _ c.requires.ready _ c.requires.room c.some_leaf_too_large.ensures c.if-some_leaf_too_large.false c.fill.ensures c.spend-left.ensures c.if-left.true; long = (whole_kept _ _ _ c.requires.ready _ c.requires.room c.some_leaf_too_large.ensures c.if-some_leaf_too_large.false c.fill.ensures c.spend-left.ensures).0; past = (whole_kept _ _ _ c.requires.ready _ c.requires.room c.some_leaf_too_large.ensures c.if-some_leaf_too_large.false c.fill.ensures c.spend-left.ensures).1 }
