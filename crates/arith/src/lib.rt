@@ -4,12 +4,14 @@
 ghost use Rattle.std.specs.Prelude.{◌≡◌, ◌+◌, ◌*◌, ◌<◌, ◌^◌};
 ghost use Rattle.arith.specs.Capped.{capped};
 
+#[tactic(auto, using(crate::proofs::CappedLaws::capped_some))]
 pub fn add(acc: u64, p: u64) -> Option<u64>
     ensures { result ≡ capped (acc + p) }
 {
     acc.checked_add(p)
 }
 
+#[tactic(auto, using(crate::proofs::CappedLaws::capped_ok))]
 pub fn mul_add(acc: u64, a: u64, b: u64) -> Option<u64>
     ensures { result ≡ capped (acc + a * b) }
 {

@@ -29,20 +29,21 @@ struct Case<'a> {
     is_line: bool,
 }
 
-// Room for the second opinion, and for the calls with one cell past what any run needs; what is counted, for one shape and in all.
+// Room for the second opinion, and for the calls with one cell past what any run needs, both lent: 200 KB handed out by a function are copied.
+// What is counted, for one shape and in all.
 #[derive(Drop)]
-struct Comparison {
-    table: Table,
-    area: [u64; 8193],
+struct Comparison<'a> {
+    table: &'a mut Table,
+    area: &'a mut [u64; 8193],
     tally: Tally,
     total: Tally,
 }
 
-impl Comparison {
-    fn new() -> Comparison {
+impl<'a> Comparison<'a> {
+    fn new(table: &'a mut Table, area: &'a mut [u64; 8193]) -> Comparison<'a> {
         Comparison {
-            table: Table::new(),
-            area: [7; 8193],
+            table,
+            area,
             tally: Tally::new(),
             total: Tally::new(),
         }
@@ -56,9 +57,9 @@ impl Comparison {
                 file,
                 lower: lower as u64,
             };
-            let in_four = call.run(4, &mut self.area);
+            let in_four = call.run(4, self.area);
             self.tally.hold(Count::Runs, in_four.is_due(due));
-            let at_once = call.run(1, &mut self.area);
+            let at_once = call.run(1, self.area);
             self.tally.hold(Count::Runs, at_once.is_due(due));
             if case.is_line {
                 at_once.tell(rt, lower, due)?;
@@ -70,10 +71,10 @@ impl Comparison {
     // The sheet, which clears the model's cells and leaves the one past them.
     fn hold_sheet(&mut self, case: &Case, file: &[u8]) {
         let plan = Call { file, lower: 0 }.planned();
-        told::mark(&mut self.area, plan.cells);
-        let sheet = ratesheet::sheet(file, &mut self.area);
+        told::mark(self.area, plan.cells);
+        let sheet = ratesheet::sheet(file, self.area);
         let agrees = sheet == sheet_due(case.model, &case.due, plan)
-            && is_cleared(&self.area, plan.cells, FOREIGN);
+            && is_cleared(self.area, plan.cells, FOREIGN);
         self.tally.hold(Count::Trees, agrees);
     }
 
@@ -85,7 +86,7 @@ impl Comparison {
         trees: &[Tree],
         is_line: bool,
     ) -> io::Result<Option<Due>> {
-        let Ok(due) = find_values(&mut self.table, model) else {
+        let Ok(due) = find_values(self.table, model) else {
             return Ok(None);
         };
         self.tally.count_values(&due);
@@ -105,7 +106,7 @@ impl Comparison {
 
     // Two models on both sides of 2^64.
     fn hold_two(&mut self, rt: &impl Print, model: &Model, trees: &[Tree]) -> io::Result<()> {
-        let [below, above] = both_sides(&mut self.table, model);
+        let [below, above] = both_sides(self.table, model);
         let below = self.hold(rt, &below, trees, false)?;
         let above = self.hold(rt, &above, trees, false)?;
         let is_below = below.is_some_and(|due| due[0].is_some());
@@ -142,7 +143,9 @@ impl Comparison {
 
 fn main(rt: HostRuntime) -> io::Result<()> {
     areas::tell_b(&rt)?;
-    let mut comparison = Comparison::new();
+    let mut table = Table::new();
+    let mut area = [7; 8193];
+    let mut comparison = Comparison::new(&mut table, &mut area);
     for line in &LINES {
         print!(&rt; "{:.<52}", line.name)?;
         comparison.hold(

@@ -82,8 +82,8 @@ module _ (m : Model) (windows : List ℕ) (t : Table) (p : Prepared m windows t)
   pub first_at : {n i : ℕ} → i < length (take n t.nodes) → n ≤ t.count → get_or (take n t.nodes) i no_node ≡ node_at t i
   first_at {n} {i} h l = get_or-take n t.nodes i no_node (omega (arith, first_nodes l))
 
-  pub past_first : {i : ℕ} → length (take t.count t.nodes) ≤ i → t.count ≤ i
-  past_first h = omega (arith, first_nodes (le_refl t.count))
+  pub past_first : {n i : ℕ} → length (take n t.nodes) ≤ i → n ≡ t.count → t.count ≤ i
+  past_first {n} h e = let l : n ≤ t.count = omega arith in omega (arith, first_nodes l)
 
   -- each of them, as it is found there
   pub item_ready : {x : Node} {k : ℕ} → k < length (take t.count t.nodes) → x ≡ get_or (take t.count t.nodes) k x → NodeIn m.loads ch x

@@ -114,8 +114,8 @@ fn one_by_one(area: &mut [u64], join: Join, rows: &[Row], at: Turn, q: Quota) ->
     copied(walk_rows(area, parts, rows, at.left, at.right, at.own, copied(q)))
 }
 
-// The pairs of a cell: passed over by their number, or summed at once; one by one where skip or budget ends among them or a sum does not
-// fit.
+// The pairs of a cell that the skip does not cover whole (walk_alone and walk_last pass over those): summed at once, or one by one where skip
+// or budget ends among them or a sum does not fit.
 #[inline(always)]
 fn walk_cell(area: &mut [u64], join: Join, rows: &[Row], at: Turn, q: Quota) -> Quota
     requires inside { Inside (length area.old) join rows.now at.left at.right at.own }
@@ -124,12 +124,6 @@ fn walk_cell(area: &mut [u64], join: Join, rows: &[Row], at: Turn, q: Quota) -> 
 {
     if q.over {
         return q;
-    }
-    if at.count <= q.skip {
-        return Quota {
-            skip: q.skip - at.count,
-            ..q
-        };
     }
     if 0 < q.skip {
         return one_by_one(area, join, rows, at, q);
@@ -150,13 +144,23 @@ fn walk_cell(area: &mut [u64], join: Join, rows: &[Row], at: Turn, q: Quota) -> 
     }
 }
 
-// The cell of a join that has no loop, apart, so that walk_cell is inlined once in the loop over the cells.
+// The cell of a join that has no loop, passed over by the number of its pairs, or walked. Apart, so that walk_cell is inlined once in the loop
+// over the cells.
 #[inline(never)]
 fn walk_alone(area: &mut [u64], join: Join, rows: &[Row], at: Turn, q: Quota) -> Quota
     requires inside { Inside (length area.old) join rows.now at.left at.right at.own }
     requires counted { at.count ≡ length (places rows.now at.left at.right) }
     ensures { state result area.new ≡ walk (cell_pairs join rows.now at.left at.right at.own) (state q area.old) }
 {
+    if q.over {
+        return q;
+    }
+    if at.count <= q.skip {
+        return Quota {
+            skip: q.skip - at.count,
+            ..q
+        };
+    }
     walk_cell(area, join, rows, at, q)
 }
 
@@ -201,8 +205,10 @@ impl Loop {
     }
 }
 
-// The last loop: one cell a turn. Its row's count is written for each i, and restored. Beside walk_loops, since with a call of that for each
-// cell a run of small cells took a sixth longer.
+// The last loop: one cell a turn. The cells that the skip covers are passed over by the numbers of their pairs, in a loop of their own: when
+// walk_cell did so, an advance by one pair in the midst of a run took up to 1.8 times as many instructions (m6). For the cells after them the
+// row's count is written for each i, and restored. Beside walk_loops, since with a call of that for each cell a run of small cells took a
+// sixth longer.
 fn walk_last(
     area: &mut [u64],
     join: Join,
@@ -214,9 +220,25 @@ fn walk_last(
     requires { Sound (length area.old) join (last ∷ []) rows.old at.left at.right at.own at.count }
     ensures { (state result area.new ≡ walk (loop_pairs join (last ∷ []) rows.old at.left at.right at.own) (state q area.old)) × (rows.new ≡ rows.old) }
 {
+    if q.over {
+        return q;
+    }
+    let mut skip = q.skip;
+    let mut first = 0;
+    for j in 0..last.count {
+        let turn = last.turn(at, j);
+        if skip < turn.count {
+            break;
+        }
+        skip -= turn.count;
+        first = j + 1;
+    }
+    let mut e = Quota { skip, ..q };
+    if first == last.count {
+        return e;
+    }
     let old = count_in(rows, last.row);
-    let mut e = q;
-    for i in 0..last.count {
+    for i in first..last.count {
         set_count(rows, last.row, i + 1);
         e = walk_cell(area, join, rows, last.turn(at, i), e);
         if ended(e.over, e.skip, e.budget) {

@@ -17,6 +17,11 @@ abbrev pub Tells : Run → Option ℕ → Type 0
 Tells r None = r.told.value ≡ Err Refusal.TooLarge
 Tells r (Some v) = (v ≡ 0 → r.told.value ≡ Err Refusal.WindowZero) × (v ≢ 0 → (r.told.done ≡ r.plan.pairs) × (r.told.value ≡ Ok v))
 
+-- "14: a cell would reach 2^64"; "15: sheet only: G(N) is below 2^64, a lowered value isn't": which of them, by the whole model's value.
+abbrev pub refusal_due : Option ℕ → Refusal
+refusal_due None = Refusal.TooLarge
+refusal_due (Some v) = Refusal.LoweredTooLarge
+
 -- The model's cells are 0, and the one past them is as it was.
 abbrev pub IsCleared : List ℕ → ℕ → ℕ → Type 0
 IsCleared area cells foreign = (cells < length area) × (slice_index area cells ≡ foreign) × All (λ x. x ≡ 0) (take cells area)

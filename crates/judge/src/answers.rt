@@ -1,6 +1,6 @@
 // What a run and a sheet tell, and whether it is what is due.
 ghost use Rattle.std.specs.Prelude.{◌≡◌, ◌≢◌, ◌*◌, ◌<◌, ◌↔◌, IsTrue};
-ghost use Rattle.judge.specs.Due.{IsCleared, Tells, told_of};
+ghost use Rattle.judge.specs.Due.{IsCleared, Tells, refusal_due, told_of};
 
 use calls::{Advanced, Halted, Planned, Refusal, Sheet};
 use states::model::Model;
@@ -111,6 +111,16 @@ fn accepted(model: &Model, due: &Due, plan: Planned) -> Option<Sheet> {
     })
 }
 
+// What is due where some value is 2^64 or more.
+fn refusal_due(whole: Option<u64>) -> Refusal
+    ensures { result ≡ refusal_due whole }
+{
+    match whole {
+        None => Refusal::TooLarge,
+        Some(_) => Refusal::LoweredTooLarge,
+    }
+}
+
 pub fn sheet_due(model: &Model, due: &Due, plan: Planned) -> Result<Sheet, Refusal> {
-    accepted(model, due, plan).ok_or(Refusal::TooLarge)
+    accepted(model, due, plan).ok_or(refusal_due(due[0]))
 }

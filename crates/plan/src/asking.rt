@@ -19,7 +19,9 @@ impl Run {
     }
 }
 
-// That the model is Guaranteed stays a clause, for the reason at Run (lib.rt).
+// That the model is Guaranteed stays a clause, for the reason at Run (lib.rt). This and `prepare` are inlined, so that a run is made where the call
+// keeps it: handed on behind a Result it is copied, 7 KB each time.
+#[inline(always)]
 pub fn run_of(m: Model, lower: u64) -> Result<Run, Refusal>
     requires { Guaranteed m }
     ensures { RunFor (lowering m lower) result }
@@ -33,6 +35,7 @@ pub fn run_of(m: Model, lower: u64) -> Result<Run, Refusal>
     })
 }
 
+#[inline(always)]
 pub fn prepare(file: &[u8], lower: u64) -> Result<Run, Refusal>
     ensures { RunFor (ask file.now lower) result }
 {

@@ -65,7 +65,7 @@ impl State {
 }
 
 // G(N), by the table of a model with these windows or larger ones; None if that is 2^64 or more.
-pub(crate) fn value(table: &Table, model: &Model) -> Result<Option<u64>, LeftOut> {
+pub fn value(table: &Table, model: &Model) -> Result<Option<u64>, LeftOut> {
     let mut state = State::first(model);
     let mut sum = Some(0);
     for _ in 0..STATES {

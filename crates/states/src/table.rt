@@ -62,7 +62,7 @@ impl Table {
         self.size = step;
     }
 
-    pub(crate) fn fill(&mut self, model: &Model) -> Result<(), LeftOut> {
+    pub fn fill(&mut self, model: &Model) -> Result<(), LeftOut> {
         self.set_digits(model);
         if ENTRIES < self.size.saturating_mul(model.centres) {
             return Err(LeftOut);

@@ -29,4 +29,4 @@ pub returns : goal.returns
 returns c =
     let p = c.requires.ready in
     let made = c.chains-ch.ensures p in
-    written_last _ c.args.run.now.windows _ p made c.loop-n.invariant (past_first _ c.args.run.now.windows _ p made c.loop-n-test.false)
+    written_last _ c.args.run.now.windows _ p made c.loop-n.invariant (past_first _ c.args.run.now.windows _ p made c.loop-n-test.false (omega arith))

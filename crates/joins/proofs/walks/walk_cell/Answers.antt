@@ -1,13 +1,10 @@
--- `walk_cell` meets its contract: a cell is passed over, or its whole sum is added, or its pairs go one by one.
+-- `walk_cell` meets its contract: its whole sum is added, or its pairs go one by one.
 use mathlib.Core.Path.{refl, sym, ◌∙◌}
-use Rattle.joins.proofs.CellLaws.{cell_over, cell_past, cell_added}
+use Rattle.joins.proofs.CellLaws.{cell_over, cell_added}
 use Rattle.joins.proofs.walks.walk_cell.Goals as goal
 
 pub returns-then-q : goal.returns-then-q
 returns-then-q c = cell_over _ _ _ c.if-q.true
-
-pub returns-then-at-q : goal.returns-then-at-q
-returns-then-at-q c = cell_past _ _ _ _ _ _ _ c.requires.inside refl _ c.requires.counted _ c.if-q.false c.if-at-q.true
 
 pub returns-in-Some : goal.returns-in-Some
 returns-in-Some c =
