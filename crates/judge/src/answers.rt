@@ -1,5 +1,5 @@
 // What a run and a sheet tell, and whether it is what is due.
-ghost use Rattle.std.specs.Prelude.{◌≡◌, ◌≢◌, ◌*◌, ◌<◌, ◌↔◌, IsTrue};
+ghost use Rattle.std.specs.Prelude.{◌≡◌, ◌≢◌, ◌*◌, ◌<◌, ◌↔◌, IsTrue, IfErr, None, get_or};
 ghost use Rattle.judge.specs.Due.{IsCleared, Tells, refusal_due, told_of};
 
 use calls::{Advanced, Halted, Planned, Refusal, Sheet};
@@ -121,6 +121,8 @@ fn refusal_due(whole: Option<u64>) -> Refusal
     }
 }
 
-pub fn sheet_due(model: &Model, due: &Due, plan: Planned) -> Result<Sheet, Refusal> {
+pub fn sheet_due(model: &Model, due: &Due, plan: Planned) -> Result<Sheet, Refusal>
+    ensures { IfErr result (λ r. r ≡ refusal_due (get_or due.now 0 None)) }
+{
     accepted(model, due, plan).ok_or(refusal_due(due[0]))
 }
